@@ -1,0 +1,27 @@
+// The called side's choice of a cipher.
+ghost use mathlib.Core.Path.{_≡_};
+ghost use Rattle.words.specs.Best.{Best};
+ghost use Rattle.words.specs.Choice.{choose};
+ghost use Rattle.words.specs.Ciphers.{number-of};
+ghost use Rattle.words.specs.Listed.{listed};
+use crate::cipher::Cipher;
+use crate::cipher::CipherPartialEq;
+use crate::preferences::Preferences;
+
+// The first of the preferences that is offered, or nothing where no cipher is in common.
+pub fn choose(preferences: &Preferences, offer: &Preferences) -> Option<Cipher>
+    ensures value { λ r. ⌜ number-of r ≡ choose (listed (now (preferences .entry))) (listed (now (offer .entry))) ⌝ }
+    ensures best { λ r. ⌜ Best (listed (now (preferences .entry))) (listed (now (offer .entry))) (number-of r) ⌝ }
+{
+    let (ranked, offered) = (preferences.as_slice(), offer.as_slice());
+    let mut found = None;
+    'search: for cipher in ranked {
+        for other in offered {
+            if cipher == other {
+                found = Some(*cipher);
+                break 'search;
+            }
+        }
+    }
+    found
+}
