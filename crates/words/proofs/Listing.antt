@@ -22,7 +22,7 @@ use Rattle.words.specs.declared.fault.Fault.the-variants.{NoCipher, TooManyCip
 use Rattle.words.specs.declared.preferences.Preferences.{Preferences}
 use Rattle.words.specs.Choice.{most-ciphers, holds, distinct, proper}
 use Rattle.words.specs.Ciphers.{numbers}
-use Rattle.words.specs.Listed.{taken, made}
+use Rattle.words.specs.Listed.{taken, made, addable}
 
 -- what the search of a slice says is what the list of numbers holds
 pub contained : (cs : List Cipher) (c : Cipher) (r : Bool) → Some-of (λ y t. Decides t (y ≡ c)) cs r → r ≡ holds (numbers cs) (c .number)
@@ -94,32 +94,32 @@ pub record Proper (cs : List ℕ) : Type 0 where
   pub few : length cs ≤ most-ciphers
   pub apart : distinct cs ≡ true
 
-pub proper-parts : (cs : List ℕ) → proper cs ≡ true → Proper cs
+proper-parts : (cs : List ℕ) → proper cs ≡ true → Proper cs
 proper-parts cs h =
     let p = and-parts (leb 1 (length cs) && leb (length cs) most-ciphers) (distinct cs) h in
     let q = and-parts (leb 1 (length cs)) (leb (length cs) most-ciphers) (p .0) in
     record { some = leb-true 1 _ (q .0); few = leb-true _ 16 (q .1); apart = p .1 }
 
-pub proper-from : (cs : List ℕ) → Proper cs → proper cs ≡ true
+proper-from : (cs : List ℕ) → Proper cs → proper cs ≡ true
 proper-from cs h = and-from _ _ (and-from _ _ (le-leb 1 _ (h .some)) (le-leb _ 16 (h .few))) (h .apart)
 
-pub proper-taken : (cs : List ℕ) → proper cs ≡ true → taken cs ≡ Ok cs
+proper-taken : (cs : List ℕ) → proper cs ≡ true → taken cs ≡ Ok cs
 proper-taken cs h = let p = proper-parts cs h in taken-good cs (p .some) (p .few) (p .apart)
 
 -- a list is taken exactly if it is proper
-pub taken-exactly : (cs : List ℕ) → isOk (taken cs) ≡ proper cs
+taken-exactly : (cs : List ℕ) → isOk (taken cs) ≡ proper cs
 taken-exactly cs = by-tests (length cs) (distinct cs) where
   by-tests : (n : ℕ) (d : Bool) → isOk {E = Fault} (cond (eqb n 0) (Err NoCipher) (cond (ltb most-ciphers n) (Err TooManyCiphers) (cond d (Ok cs) (Err CipherTwice)))) ≡ (leb 1 n && leb n most-ciphers && d)
   by-tests n d = grind (arith, tells)
 
 -- one more at the end
-pub full : (cs : List ℕ) (c : ℕ) → ltb (length cs) most-ciphers ≡ false → taken (cs ++ c ∷ []) ≡ Err TooManyCiphers
+full : (cs : List ℕ) (c : ℕ) → ltb (length cs) most-ciphers ≡ false → taken (cs ++ c ∷ []) ≡ Err TooManyCiphers
 full cs c h = taken-many (cs ++ c ∷ []) (omega (arith, ltb-false _ 16 h, length-push cs c))
 
-pub again : (cs : List ℕ) (c : ℕ) → ltb (length cs) most-ciphers ≡ true → holds cs c ≡ true → taken (cs ++ c ∷ []) ≡ Err CipherTwice
+again : (cs : List ℕ) (c : ℕ) → ltb (length cs) most-ciphers ≡ true → holds cs c ≡ true → taken (cs ++ c ∷ []) ≡ Err CipherTwice
 again cs c room h = taken-twice (cs ++ c ∷ []) (omega (arith, length-push cs c)) (omega (arith, ltb-true _ 16 room, length-push cs c)) (distinct-again cs [] c h)
 
-pub grown : (cs : List ℕ) (c : ℕ) → ltb (length cs) most-ciphers ≡ true → proper cs ≡ true → holds cs c ≡ false → proper (cs ++ c ∷ []) ≡ true
+grown : (cs : List ℕ) (c : ℕ) → ltb (length cs) most-ciphers ≡ true → proper cs ≡ true → holds cs c ≡ false → proper (cs ++ c ∷ []) ≡ true
 grown cs c room h out = proper-from (cs ++ c ∷ []) (record {
   some = omega (arith, length-push cs c);
   few = omega (arith, ltb-true _ 16 room, length-push cs c);
@@ -127,7 +127,7 @@ grown cs c room h out = proper-from (cs ++ c ∷ []) (record {
 })
 
 -- a fault of the front is the list's, unless it is too long
-pub refused-front : (cs ds : List ℕ) (f : Fault) → 0 < length cs → length (cs ++ ds) ≤ most-ciphers → taken cs ≡ Err f → taken (cs ++ ds) ≡ Err f
+refused-front : (cs ds : List ℕ) (f : Fault) → 0 < length cs → length (cs ++ ds) ≤ most-ciphers → taken cs ≡ Err f → taken (cs ++ ds) ≡ Err f
 refused-front cs ds f some few h =
     let long = length-append cs ds in
     let short : length cs ≤ most-ciphers = omega arith in
@@ -136,25 +136,39 @@ refused-front cs ds f some few h =
     (λ d. taken-twice (cs ++ ds) (omega arith) few (distinct-front cs ds d) ∙ sym (taken-twice cs some short d) ∙ h)
     (cases-bool (distinct cs))
 
+-- what can be added has room and is not there
+addable-parts : (cs : List ℕ) (c : ℕ) → addable cs c ≡ Ok tt → (ltb (length cs) most-ciphers ≡ true) × (holds cs c ≡ false)
+addable-parts cs c h = by-tests (ltb (length cs) most-ciphers) (holds cs c) h where
+  by-tests : (room there : Bool) → _≡_ {A = Result (Unit {0}) Fault} (cond room (cond there (Err CipherTwice) (Ok tt)) (Err TooManyCiphers)) (Ok tt) → (room ≡ true) × (there ≡ false)
+  by-tests true true h = let z : _≡_ {A = ℕ} 0 1 = cc in absurd (omega arith)
+  by-tests true false h = (refl, refl)
+  by-tests false there h = let z : _≡_ {A = ℕ} 0 1 = cc in absurd (omega arith)
+
+-- what can't be added refuses the longer list
+refuses : (cs : List ℕ) (c : ℕ) (f : Fault) → addable cs c ≡ Err f → taken (cs ++ c ∷ []) ≡ Err f
+refuses cs c f h = by-tests (ltb (length cs) most-ciphers) (holds cs c) refl refl h where
+  by-tests : (room there : Bool) → ltb (length cs) most-ciphers ≡ room → holds cs c ≡ there → _≡_ {A = Result (Unit {0}) Fault} (cond room (cond there (Err CipherTwice) (Ok tt)) (Err TooManyCiphers)) (Err f) → taken (cs ++ c ∷ []) ≡ Err f
+  by-tests true true r t h = again cs c r t ∙ ap Err same where
+    same : CipherTwice ≡ f
+    same = cc
+  by-tests true false r t h = let z : _≡_ {A = ℕ} 0 1 = cc in absurd (omega arith)
+  by-tests false there r t h = full cs c r ∙ ap Err same where
+    same : TooManyCiphers ≡ f
+    same = cc
+
 -- the first n of an array, and one more stored behind them
 module _ (cs : List Cipher) (n : ℕ) (c : Cipher) where
-  counted : n ≤ length cs → length (numbers (take n cs)) ≡ n
+  pub counted : n ≤ length cs → length (numbers (take n cs)) ≡ n
   counted h = length-map (take n cs) (λ x. x .number) ∙ length-take-le n cs h
 
-  pub full-array : n ≤ length cs → ltb n most-ciphers ≡ false → taken (numbers (take n cs) ++ c .number ∷ []) ≡ Err TooManyCiphers
-  full-array h none = full _ _ (ap (λ k. ltb k most-ciphers) (counted h) ∙ none)
-
-  pub again-array : n ≤ length cs → ltb n most-ciphers ≡ true → holds (numbers (take n cs)) (c .number) ≡ true → taken (numbers (take n cs) ++ c .number ∷ []) ≡ Err CipherTwice
-  again-array h room twice = again _ _ (ap (λ k. ltb k most-ciphers) (counted h) ∙ room) twice
-
-  stored : n < length cs → numbers (take (n + 1) (set cs n c)) ≡ numbers (take n cs) ++ c .number ∷ []
+  pub stored : n < length cs → numbers (take (n + 1) (set cs n c)) ≡ numbers (take n cs) ++ c .number ∷ []
   stored h = ap numbers (take-more-set cs n c h) ∙ map-push (λ x. x .number) (take n cs) c
 
-  pub grown-array : n < length cs → ltb n most-ciphers ≡ true → proper (numbers (take n cs)) ≡ true → holds (numbers (take n cs)) (c .number) ≡ false → proper (numbers (take (n + 1) (set cs n c))) ≡ true
-  grown-array h room sound out = ap proper (stored h) ∙ grown _ _ (ap (λ k. ltb k most-ciphers) (counted (omega arith)) ∙ room) sound out
+  pub has-room : length cs ≡ most-ciphers → n ≤ most-ciphers → addable (numbers (take n cs)) (c .number) ≡ Ok tt → n < length cs
+  has-room long few h = omega (arith, counted (omega arith), ltb-true (length (numbers (take n cs))) 16 (addable-parts (numbers (take n cs)) (c .number) h .0))
 
-  pub taken-array : n < length cs → proper (numbers (take (n + 1) (set cs n c))) ≡ true → taken (numbers (take n cs) ++ c .number ∷ []) ≡ Ok (numbers (take (n + 1) (set cs n c)))
-  taken-array h sound = ap taken (sym (stored h)) ∙ proper-taken _ sound
+  pub grown-array : n < length cs → proper (numbers (take n cs)) ≡ true → addable (numbers (take n cs)) (c .number) ≡ Ok tt → proper (numbers (take (n + 1) (set cs n c))) ≡ true
+  grown-array h sound can = let p = addable-parts (numbers (take n cs)) (c .number) can in ap proper (stored h) ∙ grown _ _ (p .0) sound (p .1)
 
 -- an answer that is the list's is Ok exactly if the list is proper
 pub told : (cs : List ℕ) (r : Result Preferences Fault) → made r ≡ taken cs → isOk r ≡ proper cs
@@ -172,14 +186,14 @@ many-taken cs h = taken-many (numbers cs) (omega (arith, leb-false _ 16 h, lengt
 pub begins : (cs rest : List Cipher) (first : Cipher) (sofar : List ℕ) → cs ≡ first ∷ rest → sofar ≡ first .number ∷ [] → sofar ++ numbers rest ≡ numbers cs
 begins cs rest first sofar is one = ap (λ l. l ++ numbers rest) one ∙ ap numbers (sym is)
 
-pub goes-on : (sofar : List ℕ) (rest : List Cipher) (i : ℕ) (d : Cipher) → i < length rest → sofar ++ numbers (drop i rest) ≡ (sofar ++ getD rest i d .number ∷ []) ++ numbers (drop (i + 1) rest)
+goes-on : (sofar : List ℕ) (rest : List Cipher) (i : ℕ) (d : Cipher) → i < length rest → sofar ++ numbers (drop i rest) ≡ (sofar ++ getD rest i d .number ∷ []) ++ numbers (drop (i + 1) rest)
 goes-on sofar rest i d h = ap (λ l. sofar ++ numbers l) (drop-more rest i d h) ∙ sym (append-assoc sofar (getD rest i d .number ∷ []) (numbers (drop (i + 1) rest)))
 
 -- a cipher that can't be added is a fault of the whole list
-pub stops : (sofar all : List ℕ) (rest : List Cipher) (i : ℕ) (d : Cipher) (f : Fault) → i < length rest → sofar ++ numbers (drop i rest) ≡ all → length all ≤ most-ciphers → taken (sofar ++ getD rest i d .number ∷ []) ≡ Err f → taken all ≡ Err f
+pub stops : (sofar all : List ℕ) (rest : List Cipher) (i : ℕ) (d : Cipher) (f : Fault) → i < length rest → sofar ++ numbers (drop i rest) ≡ all → length all ≤ most-ciphers → addable sofar (getD rest i d .number) ≡ Err f → taken all ≡ Err f
 stops sofar all rest i d f h is few bad =
     let whole = sym (goes-on sofar rest i d h) ∙ is in
-    ap taken (sym whole) ∙ refused-front (sofar ++ getD rest i d .number ∷ []) (numbers (drop (i + 1) rest)) f (omega (arith, length-push sofar (getD rest i d .number))) (subst (λ l. length l ≤ most-ciphers) (sym whole) few) bad
+    ap taken (sym whole) ∙ refused-front (sofar ++ getD rest i d .number ∷ []) (numbers (drop (i + 1) rest)) f (omega (arith, length-push sofar (getD rest i d .number))) (subst (λ l. length l ≤ most-ciphers) (sym whole) few) (refuses sofar (getD rest i d .number) f bad)
 
 -- all are added
 pub ends : (sofar all : List ℕ) (rest : List Cipher) (i : ℕ) → length rest ≤ i → sofar ++ numbers (drop i rest) ≡ all → proper sofar ≡ true → Ok sofar ≡ taken all
@@ -187,15 +201,6 @@ ends sofar all rest i h is sound =
     let same = sym (append-nil sofar) ∙ (ap (λ l. sofar ++ numbers l) (sym (drop-all i rest h)) ∙ is) in
     sym (proper-taken sofar sound) ∙ ap taken same
 
--- what is taken is the list itself
-taken-itself : (cs ds : List ℕ) → taken cs ≡ Ok ds → cs ≡ ds
-taken-itself cs ds h = by-tests (eqb (length cs) 0) (ltb most-ciphers (length cs)) (distinct cs) h where
-  by-tests : (none many d : Bool) → cond none (Err NoCipher) (cond many (Err TooManyCiphers) (cond d (Ok cs) (Err CipherTwice))) ≡ Ok ds → cs ≡ ds
-  by-tests true many d h = cc
-  by-tests false true d h = cc
-  by-tests false false true h = cc
-  by-tests false false false h = cc
-
 -- one more is added
-pub added : (sofar more all : List ℕ) (rest : List Cipher) (i : ℕ) (d : Cipher) → i < length rest → sofar ++ numbers (drop i rest) ≡ all → taken (sofar ++ getD rest i d .number ∷ []) ≡ Ok more → more ++ numbers (drop (i + 1) rest) ≡ all
-added sofar more all rest i d h is good = ap (λ l. l ++ numbers (drop (i + 1) rest)) (sym (taken-itself _ more good)) ∙ sym (goes-on sofar rest i d h) ∙ is
+pub added : (sofar more all : List ℕ) (rest : List Cipher) (i : ℕ) (d : Cipher) → i < length rest → sofar ++ numbers (drop i rest) ≡ all → more ≡ sofar ++ getD rest i d .number ∷ [] → more ++ numbers (drop (i + 1) rest) ≡ all
+added sofar more all rest i d h is longer = ap (λ l. l ++ numbers (drop (i + 1) rest)) longer ∙ sym (goes-on sofar rest i d h) ∙ is

@@ -6,3 +6,4 @@ pub mod Listed
 pub mod Best
 pub mod Faults
 pub mod Bytes
+pub mod Search

@@ -11,7 +11,7 @@ use Rattle.words.specs.declared.cipher.Cipher.{Cipher}
 use Rattle.words.specs.declared.fault.Fault.{Fault}
 use Rattle.words.specs.declared.fault.Fault.the-variants.{NoCipher, TooManyCiphers, CipherTwice}
 use Rattle.words.specs.declared.preferences.Preferences.{Preferences}
-use Rattle.words.specs.Choice.{most-ciphers, distinct}
+use Rattle.words.specs.Choice.{most-ciphers, holds, distinct}
 use Rattle.words.specs.Ciphers.{numbers}
 
 abbrev pub listed : Preferences → List ℕ
@@ -29,7 +29,11 @@ abbrev pub made : Result Preferences Fault → Result (List ℕ) Fault
 made (Ok p) = Ok (listed p)
 made (Err f) = Err f
 
+-- whether a list has room for one cipher more and lacks it, or which fault refuses it
+abbrev pub addable : List ℕ → ℕ → Result (Unit {0}) Fault
+addable cs c = cond (ltb (length cs) most-ciphers) (cond (holds cs c) (Err CipherTwice) (Ok tt)) (Err TooManyCiphers)
+
 -- one cipher more, at the end; what is refused leaves all as it was
 abbrev pub Added : Preferences → Cipher → Result (Unit {0}) Fault → Preferences → Type 0
-Added before c (Ok _) after = taken (listed before ++ c .number ∷ []) ≡ Ok (listed after)
-Added before c (Err f) after = (taken (listed before ++ c .number ∷ []) ≡ Err f) × (after ≡ before)
+Added before c (Ok _) after = (addable (listed before) (c .number) ≡ Ok tt) × (listed after ≡ listed before ++ c .number ∷ [])
+Added before c (Err f) after = (addable (listed before) (c .number) ≡ Err f) × (after ≡ before)

@@ -6,7 +6,7 @@ ghost use lib.ListN.{length};
 ghost use Rattle.std.specs.Results.{isOk};
 ghost use Rattle.words.specs.Choice.{most-ciphers, holds, proper};
 ghost use Rattle.words.specs.Ciphers.{numbers};
-ghost use Rattle.words.specs.Listed.{listed, taken, made, Added};
+ghost use Rattle.words.specs.Listed.{listed, taken, made, addable, Added};
 use crate::cipher::Cipher;
 use crate::cipher::CipherPartialEq;
 use crate::fault::Fault;
@@ -27,6 +27,13 @@ fn fits(count: usize) -> bool
     ensures { λ r. ⌜ r ≡ leb count most-ciphers ⌝ }
 {
     count <= MOST_CIPHERS
+}
+
+// Whether a cipher is among those of a slice.
+fn is_among(ciphers: &[Cipher], cipher: Cipher) -> bool
+    ensures { λ r. ⌜ r ≡ holds (numbers (now (ciphers .entry))) (cipher .number) ⌝ }
+{
+    ciphers.contains(&cipher)
 }
 
 impl Preferences {
@@ -62,14 +69,22 @@ impl Preferences {
     pub fn add(&mut self, cipher: Cipher) -> Result<(), Fault>
         ensures { λ r. ⌜ Added (now (self .entry)) cipher r (now (self .exit)) ⌝ }
     {
-        if !has_room(self.count) {
+        self.admits(cipher)?;
+        self.ciphers[self.count] = cipher;
+        self.count += 1;
+        Ok(())
+    }
+
+    // Whether one more can be added.
+    fn admits(&self, cipher: Cipher) -> Result<(), Fault>
+        ensures { λ r. ⌜ r ≡ addable (listed (now (self .entry))) (cipher .number) ⌝ }
+    {
+        if !has_room(self.len()) {
             return Err(Fault::TooManyCiphers);
         }
         if self.holds(cipher) {
             return Err(Fault::CipherTwice);
         }
-        self.ciphers[self.count] = cipher;
-        self.count += 1;
         Ok(())
     }
 
@@ -77,7 +92,14 @@ impl Preferences {
     pub fn holds(&self, cipher: Cipher) -> bool
         ensures { λ r. ⌜ r ≡ holds (listed (now (self .entry))) (cipher .number) ⌝ }
     {
-        self.as_slice().contains(&cipher)
+        is_among(self.as_slice(), cipher)
+    }
+
+    // How many there are.
+    pub fn len(&self) -> usize
+        ensures { λ r. ⌜ r ≡ length (listed (now (self .entry))) ⌝ }
+    {
+        self.as_slice().len()
     }
 
     // The ciphers, best first.

@@ -32,7 +32,7 @@ returns-in-Break-add c =
     record { value = is; exact = told (numbers (c .args .ciphers .now)) (c .from-residual .result) is }
 
 pub loop-cipher-again : need.loop-cipher-again
-loop-cipher-again c = added _ _ _ _ _ _ (c .loop-cipher-test .taken) (c .loop-cipher .inv) (c .in-Continue-add .ensures tt)
+loop-cipher-again c = added _ _ _ _ _ _ (c .loop-cipher-test .taken) (c .loop-cipher .inv) (c .in-Continue-add .ensures tt .1)
 
 pub returns : need.returns
 returns c =
