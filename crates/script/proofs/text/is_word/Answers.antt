@@ -1,0 +1,7 @@
+use Rattle.std.specs.shelf.Text.{sameBytes}
+use Rattle.std.proofs.shelf.Equals.{matches-decides, sameBytes-decides}
+use Rattle.std.proofs.shelf.Ways.{same-from-decides}
+use Rattle.script.proofs.text.is_word.Needs as need
+
+pub returns : need.returns
+returns c = same-from-decides _ _ (matches-decides (c .args .found .now) (c .args .sought .now) _ (c .eq .ensures)) (sameBytes-decides (c .args .found .now) (c .args .sought .now))
