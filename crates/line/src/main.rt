@@ -12,12 +12,15 @@ use std::io::BufReader;
 use std::io::Read;
 
 fn main(rt: LibcRuntime) -> io::Result<()> {
-    let mut named = false;
-    for name in env::args(&rt)?.skip(1) {
-        named = true;
+    let mut names = env::args(&rt)?.skip(1);
+    let Some(first) = names.next() else {
+        return play(&rt, rt.stdin());
+    };
+    play_named(&rt, &first)?;
+    for name in names {
         play_named(&rt, &name)?;
     }
-    if named { Ok(()) } else { play(&rt, rt.stdin()) }
+    Ok(())
 }
 
 // Plays the script of a file, or of standard input where the name is `-`, under its name.

@@ -7,9 +7,8 @@ use native.Mathlib.Omega.{arith}
 use lib.Dec.{eqb}
 use lib.ListN.{length, getD, take, drop}
 use Rattle.std.proofs.shelf.Tests.{cond-true, cond-false, eqb-false}
-use Rattle.script.specs.declared.text.Stop.{Stop}
 use Rattle.script.specs.declared.text.Stop.the-variants.{AtBlank, AtWord}
-use Rattle.script.specs.Text.{stops, until, from, Stops-at, word, behind}
+use Rattle.script.specs.Text.{stops, until, from, word, behind}
 
 pub front : (stop : ℕ → Bool) (bs : List ℕ) (n : ℕ) → n ≤ length bs → ((k : ℕ) → k < n → stop (getD bs k 0) ≡ false) → (n < length bs → stop (getD bs n 0) ≡ true) → take n bs ≡ until stop bs
 unfolding until

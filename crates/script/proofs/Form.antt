@@ -1,21 +1,18 @@
 -- What doesn't matter on a line, and the latest preferences. Assumes nothing.
-use mathlib.Core.Bool.{Bool, true, false, cond, not, _||_}
+use mathlib.Core.Bool.{Bool, true, false, cond}
 use mathlib.Core.List.{List, [], _∷_, _++_}
-use mathlib.Core.Logic.{⊎-elim}
 use mathlib.Core.Path.{_≡_, refl, sym, ap, subst, _∙_}
 use Prim.Native.Nat.{ℕ, _<_}
 use native.Mathlib.Omega.{arith}
 use lib.Dec.{eqb}
-use lib.ListN.{length, getD, set, length-set}
-use Rattle.std.specs.declared.option.Option.{Option}
+use lib.ListN.{getD, set, length-set}
 use Rattle.std.specs.declared.option.Option.the-variants.{Some, None}
 use Rattle.std.proofs.shelf.Lists.{getD-set-same, getD-set-other}
-use Rattle.std.proofs.shelf.Tests.{cases-bool, cond-true, cond-false, eqb-true, eqb-false, ne-eqb, or-cases, not-from-true}
+use Rattle.std.proofs.shelf.Tests.{cond-true, cond-false, eqb-true, eqb-false, not-from-true}
 use Rattle.std.proofs.shelf.Ways.{tells}
-use Rattle.script.specs.declared.text.Stop.the-variants.{AtBlank, AtWord, AtComment}
-use Rattle.script.specs.Laws.{Ignored, Latest-hold, after-all, latest}
-use Rattle.script.specs.Lines.{Line, nothing, wishes, calls, first-word, line}
-use Rattle.script.specs.Playing.{Roster, after}
+use Rattle.script.specs.declared.text.Stop.the-variants.{AtBlank, AtWord}
+use Rattle.script.specs.Laws.{Ignored, Latest-hold, latest}
+use Rattle.script.specs.Lines.{nothing, wishes, calls, first-word, line}
 use Rattle.script.specs.Text.{blank, hash, stops, until, from, uncommented, word, behind}
 
 cut-again : (bs more : List ℕ) (h : ℕ) → hash h ≡ true → uncommented (uncommented bs ++ h ∷ more) ≡ uncommented bs

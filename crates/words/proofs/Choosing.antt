@@ -1,9 +1,9 @@
 -- How a choice is found step by step, and what it is. Assumes nothing.
-use mathlib.Core.Bool.{Bool, true, false, cond, _||_}
-use mathlib.Core.List.{List, [], _∷_, map}
-use mathlib.Core.Logic.{_⊎_, inl, inr, ⊎-elim}
+use mathlib.Core.Bool.{true, false}
+use mathlib.Core.List.{List, [], _∷_}
+use mathlib.Core.Logic.{_⊎_, ⊎-elim}
 use mathlib.Core.Path.{_≡_, refl, sym, ap, subst, _∙_}
-use Prim.Native.Nat.{ℕ, zero, suc, _+_, _<_, _≤_}
+use Prim.Native.Nat.{ℕ, zero, suc, _<_}
 use native.Mathlib.Omega.{arith}
 use lib.Dec.{eqb}
 use lib.ListN.{length, getD}
@@ -11,7 +11,7 @@ use Rattle.std.specs.declared.option.Option.{Option}
 use Rattle.std.specs.declared.option.Option.the-variants.{Some, None}
 use Rattle.std.proofs.shelf.Tests.{cond-both, cond-true, cond-false, or-cases, eqb-true, both-ways, ne-eqb, eq-eqb, or-left, or-right, or-from}
 use Rattle.words.specs.declared.cipher.Cipher.{Cipher}
-use Rattle.words.specs.Best.{Best, Best-common, Nothing-common}
+use Rattle.words.specs.Best.{Best}
 use Rattle.words.specs.Choice.{holds, choose}
 use Rattle.words.specs.Ciphers.{numbers, number-of}
 use Rattle.words.specs.Search.{at, None-offered, Searched}

@@ -1,5 +1,5 @@
 -- Lists of ciphers that grow at their end: what is taken, and which fault refuses them. Assumes nothing.
-use mathlib.Core.Bool.{Bool, true, false, cond, not, _||_, _&&_}
+use mathlib.Core.Bool.{Bool, true, false, cond, not, _&&_}
 use mathlib.Core.List.{List, [], _∷_, _++_, append-assoc}
 use mathlib.Core.Logic.{⊎-elim}
 use mathlib.Core.Path.{_≡_, refl, sym, ap, subst, _∙_}
@@ -13,9 +13,9 @@ use Rattle.std.specs.Results.{isOk}
 use Rattle.std.specs.declared.result.Result.{Result}
 use Rattle.std.specs.declared.result.Result.the-variants.{Ok, Err}
 use Rattle.std.proofs.shelf.Elements.{has-from-contains}
-use Rattle.std.proofs.shelf.Lists.{append-nil, drop-all, drop-more, take-all, length-push, length-take-le, take-more-set, map-push}
-use Rattle.std.proofs.shelf.Tests.{both-ways, cases-bool, cases-lt, cond-true, cond-false, or-cases, or-parts, or-from, or-left, or-right, and-parts, and-from, and-left, and-right, and-cases, not-from-true, not-from-false, not-true, not-false, eqb-true, eq-eqb, ne-eqb, eqb-false, leb-true, leb-false, le-leb, lt-leb, le-ltb, lt-ltb, ltb-true, ltb-false}
-use Rattle.std.proofs.shelf.Ways.{same-from-decides, decides-by-or, decides-eqb, tells}
+use Rattle.std.proofs.shelf.Lists.{append-nil, drop-all, drop-more, length-push, length-take-le, take-more-set, map-push}
+use Rattle.std.proofs.shelf.Tests.{both-ways, cases-bool, cond-true, cond-false, or-cases, or-parts, or-from, or-left, or-right, and-parts, and-from, and-left, and-right, and-cases, not-from-true, not-from-false, not-true, not-false, eqb-true, eq-eqb, ne-eqb, eqb-false, leb-true, leb-false, le-leb, le-ltb, lt-ltb, ltb-true, ltb-false}
+use Rattle.std.proofs.shelf.Ways.{same-from-decides, decides-by-or, tells}
 use Rattle.words.specs.declared.cipher.Cipher.{Cipher}
 use Rattle.words.specs.declared.fault.Fault.{Fault}
 use Rattle.words.specs.declared.fault.Fault.the-variants.{NoCipher, TooManyCiphers, CipherTwice}

@@ -1,7 +1,6 @@
 // Every first byte that has a meaning: kinds, signing marks, derivations. Nothing else names such a byte.
 ghost use mathlib.Core.Path.{_≡_};
-ghost use Rattle.words.specs.Bytes.{kind-byte, kind-of, mark-byte, derivation-byte, One-purpose-each};
-ghost use Rattle.words.specs.Bytes.{Names};
+ghost use Rattle.words.specs.Bytes.{kind-byte, kind-of, Names, mark-byte, derivation-byte, One-purpose-each};
 
 // The first byte of a word, of a record and of a settings file.
 #[derive(Clone, Copy)]

@@ -1,5 +1,5 @@
 -- The ciphers so far, and those to come, are all.
-use mathlib.Core.List.{_∷_, _++_}
+use mathlib.Core.List.{_++_}
 use mathlib.Core.Path.{_≡_}
 use lib.ListN.{drop}
 use Rattle.words.specs.Ciphers.{numbers}
