@@ -1,0 +1,17 @@
+pub mod Events
+pub mod Logs
+pub mod Released
+pub mod Shapes
+pub mod Fair
+pub mod Partners
+pub mod Secrecy
+pub mod Sound
+pub mod Calls
+pub mod Hellos
+pub mod Replies
+pub mod Ends
+pub mod Reached
+pub mod Kept
+pub mod Live
+pub mod Undisturbed
+pub mod Promised

@@ -1,0 +1,42 @@
+-- Every world that the network can reach keeps the promise. Assumes nothing.
+use mathlib.Core.Path.{_≡_, refl}
+use mathlib.Core.Bool.{true}
+use mathlib.Core.List.{List, [], _∷_}
+use Prim.Native.Nat.{ℕ}
+use Rattle.symbolic.specs.Term.{Term}
+use Rattle.protocol.specs.World.{rules, World, Command, play, plays}
+use Rattle.protocol.specs.Symbols.{symbols, fresh, start}
+use Rattle.promise.specs.Run.{all-proper, Reach, begin, more}
+use Rattle.promise.specs.Promise.{Promise, Always, All-allowed, Every-run-keeps-the-promise}
+use Rattle.promise.proofs.Reached.{Good, reached-good}
+use Rattle.promise.proofs.Kept as kept
+use Rattle.promise.proofs.Undisturbed.{undisturbed-ends}
+
+pub good-promise : {preferences : List (List ℕ)} {w : World Term} → Good preferences w → Promise w
+good-promise {w = w} good = record {
+  right-keys = kept.right-keys good;
+  caller-partner = kept.caller-partner good;
+  called-partner = kept.called-partner good;
+  one-each = kept.one-each good;
+  by-its-words = kept.by-its-words good;
+  unshared = kept.unshared good;
+  secret-kept = kept.secret-kept good;
+  called-secret-kept = kept.called-secret-kept good;
+  only-given-away = kept.only-given-away good;
+  nobody-else = kept.nobody-else good;
+  choice-offered = kept.choice-offered good;
+  refusal-silent = kept.refusal-silent w;
+  undisturbed-ends = undisturbed-ends good;
+  tables = kept.tables good;
+}
+
+pub promised : Always Promise
+promised preferences w r = good-promise (reached-good r)
+
+plays-reach : {preferences : List (List ℕ)} (commands : List (Command Term)) (w : World Term) → Reach (rules symbols) preferences w → All-allowed w commands → Reach (rules symbols) preferences (plays symbols (rules symbols) fresh w commands)
+unfolding plays All-allowed
+plays-reach [] w r x = r
+plays-reach (c ∷ cs) w r x = plays-reach cs (play symbols (rules symbols) fresh w c) (more r c (x .0) refl) (x .1)
+
+pub every-run : Every-run-keeps-the-promise
+every-run preferences a commands x = promised preferences (plays symbols (rules symbols) fresh (start preferences) commands) (plays-reach commands (start preferences) (begin a refl) x)

@@ -1,0 +1,5 @@
+pub mod Steps
+pub mod Reading
+pub mod Apart
+pub mod Tables
+pub mod Rows

@@ -1,0 +1,10 @@
+pub mod Lists
+pub mod Got
+pub mod Words
+pub mod Algebra
+pub mod Side
+pub mod Event
+pub mod Step
+pub mod World
+pub mod Symbols
+pub mod Laws

@@ -1,0 +1,4 @@
+pub mod Insert
+pub mod Terms
+pub mod Public
+pub mod More

@@ -1,0 +1,4 @@
+pub mod Key
+pub mod Term
+pub mod Derivable
+pub mod Laws
