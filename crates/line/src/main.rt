@@ -12,13 +12,18 @@ use std::io::BufReader;
 use std::io::Read;
 
 fn main(rt: LibcRuntime) -> io::Result<()> {
-    let mut names = env::args(&rt)?.skip(1);
+    rt.report(run(&rt))
+}
+
+// Plays the scripts that are named by argument, or else the one on standard input.
+fn run(rt: &LibcRuntime) -> io::Result<()> {
+    let mut names = env::args(rt)?.skip(1);
     let Some(first) = names.next() else {
-        return play(&rt, rt.stdin());
+        return play(rt, rt.stdin());
     };
-    play_named(&rt, &first)?;
+    play_named(rt, &first)?;
     for name in names {
-        play_named(&rt, &name)?;
+        play_named(rt, &name)?;
     }
     Ok(())
 }
