@@ -1,51 +1,22 @@
 -- The rows of the table: what is seen and refused, by computation; what is delivered, derived. Assumes nothing.
 use mathlib.Core.Path.{_≡_, refl, sym, subst}
-use mathlib.Core.Bool.{true}
-use mathlib.Core.List.{List, [], _∷_, _++_, List·Memᴰ, List·Memᴰ·head, List·Memᴰ·tail, List·Memᴰ·cases-cons}
+use mathlib.Core.List.{List, [], _∷_, List·Memᴰ, List·Memᴰ·cases-cons}
 use mathlib.Core.Logic.{_⊎_, inl, inr}
-use Prim.Native.Nat.{ℕ}
-use Rattle.words.specs.Registry.{kind-hello}
-use Rattle.words.specs.Choice.{holds, distinct, choose}
-use Rattle.symbolic.specs.Key.{own, made, insert, precedes}
-use Rattle.symbolic.specs.Term.{Term, Number, Listed, Fresh, Secret, Public, Both, Sign, same, rise, seen}
-use Rattle.symbolic.specs.Derivable.{Gets, by-ear, raw, number, listed, generator, both, left, right, tag, untag, sign, raise, mac, close}
-use Rattle.protocol.specs.Lists.{nth, put, seek, without, newest}
-use Rattle.protocol.specs.Got.{bind, guard, need}
-use Rattle.protocol.specs.Words.{Hello, Reply}
-use Rattle.protocol.specs.Event.{Finished, caller-ended, heard}
-use Rattle.protocol.specs.Step.{call, take-hello, take-reply, take-end}
-use Rattle.protocol.specs.World.{handle, settled, ordered, acted, play, plays}
-use Rattle.protocol.specs.Symbols.{hello-term, body-term, reply-term, start, as-tagged, as-pair, as-number, as-list, read-hello, read-body, read-seen, key-seen, public-seen, by-key, verified, unclose-seen, front-seen, rear-seen, new-keys, new-sides}
-use Rattle.promise.specs.Run.{all-proper, Allowed, robs, takes, never}
+use Rattle.symbolic.specs.Key.{own, made}
+use Rattle.symbolic.specs.Term.{Term, Fresh, Secret}
+use Rattle.symbolic.specs.Derivable.{Gets, raw, number, listed, both, tag, sign, raise, mac, close}
+use Rattle.protocol.specs.Event.{heard}
+use Rattle.protocol.specs.World.{rules}
+use Rattle.protocol.specs.Symbols.{symbols, hello-term, body-term, reply-term, start}
 use Rattle.promise.specs.Promise.{identity, All-allowed}
-use Rattle.cases.specs.Sight.{sight, sights, refusals}
 use Rattle.cases.specs.Table.{Row, played, hello, reply, end, first-hello, first-reply, first-end, struck-hello, forged-body, forged-reply, one-way, other-way, struck, twice, stolen-before, stolen-after, third-side, table, Holds, Every-row-holds}
+use Rattle.cases.proofs.Heard.{playing, first, second, third, fourth, hello-nonce, hello-half, own-half}
 use Rattle.cases.proofs.Keeps.{tells, only-one, kept-by}
 
--- all that a world is computed with
-playing : Unit {0}
-unfolding insert precedes same rise seen holds distinct choose nth put seek without newest bind guard need call take-hello take-reply take-end handle settled ordered acted play plays as-tagged as-pair as-number as-list read-hello read-body read-seen key-seen public-seen by-key verified unclose-seen front-seen rear-seen new-keys new-sides all-proper robs takes never sight sights heard All-allowed Allowed tells
-playing = tt
-
--- what was heard, by how many words were heard since
-first : {t : Term} {ts : List Term} → Gets (t ∷ ts) t
-first = by-ear (List·Memᴰ·head refl)
-
-second : {s t : Term} {ts : List Term} → Gets (s ∷ t ∷ ts) t
-second = by-ear (List·Memᴰ·tail (List·Memᴰ·head refl))
-
-third : {r s t : Term} {ts : List Term} → Gets (r ∷ s ∷ t ∷ ts) t
-third = by-ear (List·Memᴰ·tail (List·Memᴰ·tail (List·Memᴰ·head refl)))
-
-fourth : {q r s t : Term} {ts : List Term} → Gets (q ∷ r ∷ s ∷ t ∷ ts) t
-fourth = by-ear (List·Memᴰ·tail (List·Memᴰ·tail (List·Memᴰ·tail (List·Memᴰ·head refl))))
-
--- the nonce and the half of a hello
-hello-nonce : {ts : List Term} (h : Hello Term) → Gets ts (hello-term h) → Gets ts (h .nonce)
-hello-nonce h g = left (h .half) (right (Listed (h .offer)) (right (Number 2 (h .called)) (right (Number 2 (h .caller)) (untag kind-hello g))))
-
-hello-half : {ts : List Term} (h : Hello Term) → Gets ts (hello-term h) → Gets ts (h .half)
-hello-half h g = right (h .nonce) (right (Listed (h .offer)) (right (Number 2 (h .called)) (right (Number 2 (h .caller)) (untag kind-hello g))))
+-- and what tells whether a secret was given away
+computing : Unit {0}
+unfolding playing tells
+computing = tt
 
 -- a cipher is struck from a hello that was heard
 strike : {ts : List Term} → Gets ts (hello-term first-hello) → Gets ts (hello-term struck-hello)
@@ -53,19 +24,19 @@ strike g = tag (both number (both number (both listed (both (hello-nonce first-h
 
 -- a reply is made from a hello that was heard, with a stolen key and a drawn value and key
 forge : {ts : List Term} → Gets ts (Fresh 2 0) → Gets ts (Secret (made 2 0)) → Gets ts (hello-term (hello 0 1 (1 ∷ 2 ∷ []) 1)) → Gets ts (Secret (own 1 0)) → Gets ts (reply-term forged-reply)
-unfolding playing
+unfolding computing
 forge {ts} value key h stolen =
     let half = hello-half (hello 0 1 (1 ∷ 2 ∷ []) 1) h in
-    let seal = raise key generator in
+    let seal = own-half key in
     let body : Gets ts (body-term forged-body) = tag (both h (both number (both raw (both seal (close (mac (raise key half) (both half seal)) number value))))) in
     both body (sign stolen body)
 
-one-way-allowed : All-allowed (start (one-way .preferences)) (one-way .script)
-unfolding playing
+one-way-allowed : All-allowed (rules symbols) (start (one-way .preferences)) (one-way .script)
+unfolding computing
 one-way-allowed = (tt, (first, (first, (first, tt))))
 
 one-way-holds : Holds one-way
-unfolding playing
+unfolding computing
 one-way-holds = record {
   proper = refl;
   allowed = one-way-allowed;
@@ -75,12 +46,12 @@ one-way-holds = record {
   keeps = λ t m g. kept-by one-way refl one-way-allowed 1 (record { me = 0; their = identity 1; reply = first-reply; secret = Fresh 1 1 }) (first-end ∷ []) refl refl refl refl (subst (λ x. Gets (heard (played one-way .log)) x) (only-one m) g);
 }
 
-other-way-allowed : All-allowed (start (other-way .preferences)) (other-way .script)
-unfolding playing
+other-way-allowed : All-allowed (rules symbols) (start (other-way .preferences)) (other-way .script)
+unfolding computing
 other-way-allowed = (tt, (first, (first, (first, tt))))
 
 other-way-holds : Holds other-way
-unfolding playing
+unfolding computing
 other-way-holds = record {
   proper = refl;
   allowed = other-way-allowed;
@@ -90,12 +61,12 @@ other-way-holds = record {
   keeps = λ t m g. kept-by other-way refl other-way-allowed 1 (record { me = 1; their = identity 0; reply = (reply 0 (hello 1 0 (2 ∷ 1 ∷ []) 0) 1 1); secret = Fresh 1 1 }) ((end 1 (reply 0 (hello 1 0 (2 ∷ 1 ∷ []) 0) 1 1) 1) ∷ []) refl refl refl refl (subst (λ x. Gets (heard (played other-way .log)) x) (only-one m) g);
 }
 
-struck-allowed : All-allowed (start (struck .preferences)) (struck .script)
-unfolding playing
+struck-allowed : All-allowed (rules symbols) (start (struck .preferences)) (struck .script)
+unfolding computing
 struck-allowed = (tt, (strike first, (first, tt)))
 
 struck-holds : Holds struck
-unfolding playing
+unfolding computing
 struck-holds = record {
   proper = refl;
   allowed = struck-allowed;
@@ -105,12 +76,12 @@ struck-holds = record {
   keeps = λ t m g. elim m [ ];
 }
 
-twice-allowed : All-allowed (start (twice .preferences)) (twice .script)
-unfolding playing
+twice-allowed : All-allowed (rules symbols) (start (twice .preferences)) (twice .script)
+unfolding computing
 twice-allowed = (tt, (first, (second, (first, (third, (first, (first, tt)))))))
 
 twice-holds : Holds twice
-unfolding playing
+unfolding computing
 twice-holds = record {
   proper = refl;
   allowed = twice-allowed;
@@ -120,12 +91,12 @@ twice-holds = record {
   keeps = λ t m g. kept-by twice refl twice-allowed 1 (record { me = 0; their = identity 1; reply = (reply 1 first-hello 2 2); secret = Fresh 2 1 }) ((end 0 (reply 1 first-hello 2 2) 2) ∷ []) refl refl refl refl (subst (λ x. Gets (heard (played twice .log)) x) (only-one m) g);
 }
 
-stolen-before-allowed : All-allowed (start (stolen-before .preferences)) (stolen-before .script)
-unfolding playing
+stolen-before-allowed : All-allowed (rules symbols) (start (stolen-before .preferences)) (stolen-before .script)
+unfolding computing
 stolen-before-allowed = (tt, (tt, (tt, (forge first second third fourth, tt))))
 
 stolen-before-holds : Holds stolen-before
-unfolding playing
+unfolding computing
 stolen-before-holds = record {
   proper = refl;
   allowed = stolen-before-allowed;
@@ -135,12 +106,12 @@ stolen-before-holds = record {
   keeps = λ t m g. elim m [ ];
 }
 
-stolen-after-allowed : All-allowed (start (stolen-after .preferences)) (stolen-after .script)
-unfolding playing
+stolen-after-allowed : All-allowed (rules symbols) (start (stolen-after .preferences)) (stolen-after .script)
+unfolding computing
 stolen-after-allowed = (tt, (first, (first, (first, (tt, (tt, tt))))))
 
 stolen-after-holds : Holds stolen-after
-unfolding playing
+unfolding computing
 stolen-after-holds = record {
   proper = refl;
   allowed = stolen-after-allowed;
@@ -150,12 +121,12 @@ stolen-after-holds = record {
   keeps = λ t m g. kept-by stolen-after refl stolen-after-allowed 3 (record { me = 0; their = identity 1; reply = first-reply; secret = Fresh 1 1 }) (first-end ∷ []) refl refl refl refl (subst (λ x. Gets (heard (played stolen-after .log)) x) (only-one m) g);
 }
 
-third-side-allowed : All-allowed (start (third-side .preferences)) (third-side .script)
-unfolding playing
+third-side-allowed : All-allowed (rules symbols) (start (third-side .preferences)) (third-side .script)
+unfolding computing
 third-side-allowed = (tt, (first, (first, (first, (first, (first, tt))))))
 
 third-side-holds : Holds third-side
-unfolding playing
+unfolding computing
 third-side-holds = record {
   proper = refl;
   allowed = third-side-allowed;

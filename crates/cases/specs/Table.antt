@@ -174,7 +174,7 @@ table = one-way ∷ other-way ∷ struck ∷ twice ∷ stolen-before ∷ stolen-
 -- playing the script of a row gives what the row says
 pub record Holds (r : Row) : Type 0 where
   pub proper : all-proper (r .preferences) ≡ true
-  pub allowed : All-allowed (start (r .preferences)) (r .script)
+  pub allowed : All-allowed (rules symbols) (start (r .preferences)) (r .script)
   pub sees : sights (played r .log) ≡ r .seen
   pub refuses : refusals (played r) ≡ r .refused-by
   pub derives : (t : Term) → List·Memᴰ t (r .known) → Gets (heard (played r .log)) t

@@ -185,7 +185,7 @@ module _ {preferences : List (List ℕ)} {w : World Term} (good : Good preferenc
   }
 
 -- a refused word: of any world
-pub refusal-silent : (w : World Term) → Refusal-is-silent w
+pub refusal-silent : (w : World Term) → Refusal-is-silent (rules symbols) w
 unfolding play acted settled
 refusal-silent w a s t n e f =
     let v : World Term = play symbols (rules symbols) fresh w (world.Deliver a t) in

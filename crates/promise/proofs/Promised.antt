@@ -12,7 +12,7 @@ use Rattle.promise.proofs.Reached.{Good, reached-good}
 use Rattle.promise.proofs.Kept as kept
 use Rattle.promise.proofs.Undisturbed.{undisturbed-ends}
 
-pub good-promise : {preferences : List (List ℕ)} {w : World Term} → Good preferences w → Promise w
+pub good-promise : {preferences : List (List ℕ)} {w : World Term} → Good preferences w → Promise (rules symbols) w
 good-promise {w = w} good = record {
   right-keys = kept.right-keys good;
   caller-partner = kept.caller-partner good;
@@ -30,10 +30,10 @@ good-promise {w = w} good = record {
   tables = kept.tables good;
 }
 
-pub promised : Always Promise
+pub promised : Always (Promise (rules symbols))
 promised preferences w r = good-promise (reached-good r)
 
-plays-reach : {preferences : List (List ℕ)} (commands : List (Command Term)) (w : World Term) → Reach (rules symbols) preferences w → All-allowed w commands → Reach (rules symbols) preferences (plays symbols (rules symbols) fresh w commands)
+plays-reach : {preferences : List (List ℕ)} (commands : List (Command Term)) (w : World Term) → Reach (rules symbols) preferences w → All-allowed (rules symbols) w commands → Reach (rules symbols) preferences (plays symbols (rules symbols) fresh w commands)
 unfolding plays All-allowed
 plays-reach [] w r x = r
 plays-reach (c ∷ cs) w r x = plays-reach cs (play symbols (rules symbols) fresh w c) (more r c (x .0) refl) (x .1)

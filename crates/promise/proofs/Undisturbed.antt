@@ -95,7 +95,7 @@ module _ {preferences : List (List ℕ)} {w : World Term} (good : Good preferenc
   abbrev answered-world : World Term
   answered-world = after begun-world b answering
 
-  second-step : passed-on begun-world b ≡ answered-world
+  second-step : passed-on (rules symbols) begun-world b ≡ answered-world
   unfolding heard last-heard
   second-step = hello-answered begun-good b callee hello (s .preferences) choice (made (length (w .log)) 1) (called-side .1) refl (ap (nth preferences) (seat-a .seat .me) ∙ seat-a .seat .wishes) (seat-a .seat .proper-list) (ap (λ l. choose l (s .preferences)) callee-wishes ∙ chosen) (half-is (made (length (w .log)) 1))
 
@@ -151,7 +151,7 @@ module _ {preferences : List (List ℕ)} {w : World Term} (good : Good preferenc
   abbrev caller-ended-world : World Term
   caller-ended-world = after answered-world a ending
 
-  third-step : passed-on answered-world a ≡ caller-ended-world
+  third-step : passed-on (rules symbols) answered-world a ≡ caller-ended-world
   unfolding heard last-heard
   third-step = third .2
 
@@ -191,12 +191,12 @@ module _ {preferences : List (List ℕ)} {w : World Term} (good : Good preferenc
   abbrev both-ended-world : World Term
   both-ended-world = after caller-ended-world b (end-answer symbols callee-now (lock-of (s .me) secret reply) (fourth .0))
 
-  fourth-step : passed-on caller-ended-world b ≡ both-ended-world
+  fourth-step : passed-on (rules symbols) caller-ended-world b ≡ both-ended-world
   unfolding heard last-heard
   fourth-step = ap (λ x. play symbols (rules symbols) fresh caller-ended-world (world.Deliver b x)) sent-is ∙ fourth .4
 
-  whole : undisturbed w a b ≡ both-ended-world
-  whole = ap (λ x. passed-on (passed-on (passed-on x b) a) b) first-step ∙ ap (λ x. passed-on (passed-on x a) b) second-step ∙ ap (λ x. passed-on x b) third-step ∙ fourth-step
+  whole : undisturbed (rules symbols) w a b ≡ both-ended-world
+  whole = ap (λ x. passed-on (rules symbols) (passed-on (rules symbols) (passed-on (rules symbols) x b) a) b) first-step ∙ ap (λ x. passed-on (rules symbols) (passed-on (rules symbols) x a) b) second-step ∙ ap (λ x. passed-on (rules symbols) x b) third-step ∙ fourth-step
 
   abbrev caller-event : Finished Term
   caller-event = record { me = caller-now .me; their = third .0 .their; reply = reply; secret = secret }
@@ -213,7 +213,7 @@ module _ {preferences : List (List ℕ)} {w : World Term} (good : Good preferenc
   abbrev end-words : List Term
   end-words = Tag kind-end (Close (Mac secret (Number 1 derive-lock)) 0 nothing (Both (reply-term reply) (symbols .sign (caller-now .own) (claim-term (reply-term reply))))) ∷ []
 
-  pub both-ended : Both-ended w (undisturbed w a b) a b choice
+  pub both-ended : Both-ended w (undisturbed (rules symbols) w a b) a b choice
   unfolding robs
   both-ended = record {
     caller = caller-event;
@@ -232,5 +232,5 @@ module _ {preferences : List (List ℕ)} {w : World Term} (good : Good preferenc
     called-sure = λ x. subst (λ k. safe k (record { what = caller-ended caller-event; words = end-words } ∷ answer-entry ∷ call-entry ∷ w .log) ≡ true) (sym (fourth .1 ∙ ap identity (seat-a .seat .me))) (still-safe (identity a) (record { what = caller-ended caller-event; words = end-words }) (answer-entry ∷ call-entry ∷ w .log) refl (still-safe (identity a) answer-entry (call-entry ∷ w .log) refl (still-safe (identity a) call-entry (w .log) refl x)));
   }
 
-pub undisturbed-ends : {preferences : List (List ℕ)} {w : World Term} → Good preferences w → Undisturbed-ends w
+pub undisturbed-ends : {preferences : List (List ℕ)} {w : World Term} → Good preferences w → Undisturbed-ends (rules symbols) w
 undisturbed-ends good a b choice s t e f c = both-ended good a b choice s t e f c

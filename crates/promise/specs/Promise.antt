@@ -16,7 +16,7 @@ use Rattle.protocol.specs.Got.{No, bind}
 use Rattle.protocol.specs.Side.{Call, Answer, Session, Side, most-calls, most-answers, most-ended, counted}
 use Rattle.protocol.specs.Event.{Begun, Answered, Finished, Held, held, Event, begun, answered, caller-ended, called-ended, Entry, heard}
 use Rattle.protocol.specs.World as world
-use Rattle.protocol.specs.World.{rules, World, Command, handle, play, plays}
+use Rattle.protocol.specs.World.{Handlers, rules, World, Command, handle, play, plays}
 use Rattle.protocol.specs.Symbols.{symbols, fresh, start}
 use Rattle.promise.specs.Run.{Log, At, Past, Allowed, all-proper, Reach, safe, untaken}
 use Rattle.promise.specs.Session.{hello-of, Ended-before, Same-session, Answerer, Caller, Sure, Given-away, Out}
@@ -109,8 +109,8 @@ pub record Unheard (w v : World Term) (a : ℕ) (s : Side Term) (n : ℕ) : Type
   pub heard-same : heard (v .log) ≡ heard (w .log)
   pub sides : v .sides ≡ put (w .sides) a (counted s n)
 
-abbrev pub Refusal-is-silent : World Term → Type 0
-Refusal-is-silent w = (a : ℕ) (s : Side Term) (t : Term) (n : ℕ) → nth (w .sides) a ≡ Some s → bind (symbols .read t) (handle (rules symbols) s (fresh (length (w .log)))) ≡ No n → Unheard w (play symbols (rules symbols) fresh w (world.Deliver a t)) a s n
+abbrev pub Refusal-is-silent : Handlers Term → World Term → Type 0
+Refusal-is-silent h w = (a : ℕ) (s : Side Term) (t : Term) (n : ℕ) → nth (w .sides) a ≡ Some s → bind (symbols .read t) (handle h s (fresh (length (w .log)))) ≡ No n → Unheard w (play symbols h fresh w (world.Deliver a t)) a s n
 
 -- The tables never hold more than 64, 1,024 and 1,024.
 pub record Bounded (s : Side Term) : Type 0 where
@@ -142,12 +142,12 @@ last-heard [] = Raw 0
 last-heard (t ∷ ts) = t
 
 -- the network delivers to a side the word that it heard last
-abbrev pub passed-on : World Term → ℕ → World Term
-passed-on w a = play symbols (rules symbols) fresh w (world.Deliver a (last-heard (heard (w .log))))
+abbrev pub passed-on : Handlers Term → World Term → ℕ → World Term
+passed-on h w a = play symbols h fresh w (world.Deliver a (last-heard (heard (w .log))))
 
 -- a side calls another, and the network does nothing but deliver
-abbrev pub undisturbed : World Term → ℕ → ℕ → World Term
-undisturbed w a b = passed-on (passed-on (passed-on (play symbols (rules symbols) fresh w (world.Call a b)) b) a) b
+abbrev pub undisturbed : Handlers Term → World Term → ℕ → ℕ → World Term
+undisturbed h w a b = passed-on h (passed-on h (passed-on h (play symbols h fresh w (world.Call a b)) b) a) b
 
 -- four things happened since: a call, its answer, and its end on both sides, with the same reply and secret; surely, if the keys were safe
 pub record Both-ended (w v : World Term) (a b choice : ℕ) : Type 0 where
@@ -167,11 +167,11 @@ pub record Both-ended (w v : World Term) (a b choice : ℕ) : Type 0 where
   pub called-sure : safe (identity a) (w .log) ≡ true → safe (called .their) (record { what = caller-ended caller; words = caller-words } ∷ answer ∷ call ∷ w .log) ≡ true
 
 -- From every world, for any two sides with a cipher in common: if the network does nothing but deliver, both end.
-abbrev pub Undisturbed-ends : World Term → Type 0
-Undisturbed-ends w = (a b choice : ℕ) (s t : Side Term) → nth (w .sides) a ≡ Some s → nth (w .sides) b ≡ Some t → choose (t .preferences) (s .preferences) ≡ Some choice → Both-ended w (undisturbed w a b) a b choice
+abbrev pub Undisturbed-ends : Handlers Term → World Term → Type 0
+Undisturbed-ends h w = (a b choice : ℕ) (s t : Side Term) → nth (w .sides) a ≡ Some s → nth (w .sides) b ≡ Some t → choose (t .preferences) (s .preferences) ≡ Some choice → Both-ended w (undisturbed h w a b) a b choice
 
--- The whole promise of a world.
-pub record Promise (w : World Term) : Type 0 where
+-- The whole promise of a world, with sides that act by h.
+pub record Promise (h : Handlers Term) (w : World Term) : Type 0 where
   pub right-keys : Right-keys w
   pub caller-partner : Caller-has-partner w
   pub called-partner : Called-has-partner w
@@ -183,8 +183,8 @@ pub record Promise (w : World Term) : Type 0 where
   pub only-given-away : Only-given-away w
   pub nobody-else : Nobody-else-has-it w
   pub choice-offered : Choice-offered w
-  pub refusal-silent : Refusal-is-silent w
-  pub undisturbed-ends : Undisturbed-ends w
+  pub refusal-silent : Refusal-is-silent h w
+  pub undisturbed-ends : Undisturbed-ends h w
   pub tables : Tables-hold-the-newest w
 
 -- a statement of every world that can be reached, with sides that keep to the rules
@@ -192,10 +192,10 @@ abbrev pub Always : (World Term → Type 0) → Type 0
 Always P = (preferences : List (List ℕ)) (w : World Term) → Reach (rules symbols) preferences w → P w
 
 -- each of the commands may be given when its turn comes
-unfoldable pub All-allowed : World Term → List (Command Term) → Type 0
-All-allowed w [] = Unit {0}
-All-allowed w (c ∷ cs) = Allowed w c × All-allowed (play symbols (rules symbols) fresh w c) cs
+unfoldable pub All-allowed : Handlers Term → World Term → List (Command Term) → Type 0
+All-allowed h w [] = Unit {0}
+All-allowed h w (c ∷ cs) = Allowed w c × All-allowed h (play symbols h fresh w c) cs
 
 -- THE PROMISE: whatever the network does, in whatever order, with any number of sides: the world that is reached keeps the promise.
 abbrev pub Every-run-keeps-the-promise : Type 0
-Every-run-keeps-the-promise = (preferences : List (List ℕ)) → all-proper preferences ≡ true → (commands : List (Command Term)) → All-allowed (start preferences) commands → Promise (plays symbols (rules symbols) fresh (start preferences) commands)
+Every-run-keeps-the-promise = (preferences : List (List ℕ)) → all-proper preferences ≡ true → (commands : List (Command Term)) → All-allowed (rules symbols) (start preferences) commands → Promise (rules symbols) (plays symbols (rules symbols) fresh (start preferences) commands)

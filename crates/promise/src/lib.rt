@@ -1,5 +1,7 @@
 // The promise of the protocol: each statement stands on the contract of a function that does nothing,
 // and is proved of every world that the network can reach.
+ghost use Rattle.protocol.specs.World.{rules};
+ghost use Rattle.protocol.specs.Symbols.{symbols};
 ghost use Rattle.promise.specs.Promise.{Always, Right-keys, Caller-has-partner, Called-has-partner, One-each, Ends-by-its-words, Unshared, Secret-kept, Called-secret-kept, Only-given-away, Nobody-else-has-it, Choice-offered, Refusal-is-silent, Tables-hold-the-newest, Undisturbed-ends, Every-run-keeps-the-promise};
 
 // The key that verified a signature is the identity key of the side that the session is with.
@@ -59,12 +61,12 @@ pub fn the_choice_was_offered()
 
 // A refused word changes nothing but its count, and nothing is heard of it.
 pub fn a_refusal_is_silent()
-    ensures { λ _. ⌜ Always Refusal-is-silent ⌝ }
+    ensures { λ _. ⌜ Always (Refusal-is-silent (rules symbols)) ⌝ }
 {}
 
 // An undisturbed session ends on both sides.
 pub fn an_undisturbed_session_ends()
-    ensures { λ _. ⌜ Always Undisturbed-ends ⌝ }
+    ensures { λ _. ⌜ Always (Undisturbed-ends (rules symbols)) ⌝ }
 {}
 
 // The tables are bounded, and hold the newest.

@@ -181,20 +181,21 @@ rear-seen something = Raw 0
 abbrev pub nothing : Term
 nothing = Number 0 0
 
-abbrev pub symbols : Algebra
-symbols = record {
+-- the primitives, with what a reply's signature is over, what an end's is over, and which element is refused, as arguments
+abbrev pub primitives : (Body Term → Term) → (Term → Term) → Term → Algebra
+primitives body claim one = record {
   Atom = Term;
   same = same;
   write = word-term;
   read = read-term;
-  body = body-term;
-  claim = claim-term;
+  body = body;
+  claim = claim;
   both = Both;
   front = λ t. front-seen t (seen t);
   rear = λ t. rear-seen (seen t);
   none = nothing;
   byte = λ n. Number 1 n;
-  one = One;
+  one = one;
   half = λ x. by-key (key-seen (seen x)) (λ k. rise k (Element []));
   common = λ x e. by-key (key-seen (seen x)) (λ k. rise k e);
   public = λ x. by-key (key-seen (seen x)) Public;
@@ -205,6 +206,10 @@ symbols = record {
   close = Close;
   unclose = λ k n h t. unclose-seen k n h (seen t);
 }
+
+-- as the rules have them
+abbrev pub symbols : Algebra
+symbols = primitives body-term claim-term One
 
 -- what is drawn at a time
 abbrev pub fresh : ℕ → Draws Term

@@ -1,0 +1,3 @@
+pub mod Weak
+pub mod Scripts
+pub mod Attacks
