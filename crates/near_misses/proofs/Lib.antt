@@ -1,3 +1,4 @@
 pub mod Broken
 pub mod Leaks
 pub mod Quiet
+pub mod Safeguards

@@ -1,3 +1,4 @@
 pub mod Weak
 pub mod Scripts
 pub mod Attacks
+pub mod Safeguards

@@ -13,7 +13,7 @@ use Rattle.near_misses.specs.Weak.{part-of-called, part-of-caller, before-the-
 
 -- the reply of b to a hello with a choice when t things have happened, where its signature is over another part
 abbrev pub reply-signing : (Body Term → Term) → ℕ → Hello Term → ℕ → ℕ → Reply Term
-reply-signing part b h choice t = new-reply (primitives part claim-term One) (Secret (own b 0)) (new-body symbols h choice (fresh t))
+reply-signing part b h choice t = new-reply (primitives (record { body = part; claim = claim-term; one = One })) (Secret (own b 0)) (new-body symbols h choice (fresh t))
 
 -- the same reply to another hello
 abbrev pub with-hello : Hello Term → Reply Term → Reply Term

@@ -21,7 +21,7 @@ use Rattle.protocol.specs.Symbols.{symbols, primitives, hello-term, claim-term,
 
 -- the rules, but for what a reply's signature is over
 abbrev pub signing : (Body Term → Term) → Handlers Term
-signing body = rules (primitives body claim-term One)
+signing body = rules (primitives (record { body = body; claim = claim-term; one = One }))
 
 -- what a called side adds to the words, and what a caller does but for its list and the names
 abbrev pub part-of-called : Body Term → Term

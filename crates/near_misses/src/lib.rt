@@ -1,5 +1,7 @@
-// Near misses: sides that leave one rule out, and what the network does with them. Each theorem says what breaks then.
+// Near misses: sides that leave one rule out, and what the network does with them. Each theorem says what breaks then,
+// or, of two rules, that nothing does: those are safeguards.
 ghost use Rattle.near_misses.specs.Attacks.{Own-parts-break, Unsigned-hello-breaks, Uncompared-breaks, Keeping-keys-breaks, Believing-hellos-breaks, Unsigned-seal-breaks, One-key-breaks, Offer-first-breaks, Answered-faults-tell, Never-ending-is-not-enough, Bare-ends-break};
+ghost use Rattle.near_misses.specs.Safeguards.{Marks-are-a-safeguard, Refusing-the-one-is-a-safeguard};
 
 // Each side signs only its own part of the words.
 pub fn own_parts_break()
@@ -54,4 +56,14 @@ pub fn never_ending_is_not_enough()
 // An end holds only what was signed of the reply, and nothing is marked.
 pub fn bare_ends_break()
     ensures { λ _. ⌜ Bare-ends-break ⌝ }
+{}
+
+// Nothing is marked before it is signed, and the end holds the whole reply: the promise still holds.
+pub fn marks_are_a_safeguard()
+    ensures { λ _. ⌜ Marks-are-a-safeguard ⌝ }
+{}
+
+// The group's one isn't refused: the promise still holds.
+pub fn refusing_the_one_is_a_safeguard()
+    ensures { λ _. ⌜ Refusing-the-one-is-a-safeguard ⌝ }
 {}

@@ -15,7 +15,7 @@ use Rattle.protocol.specs.Words.{Hello}
 use Rattle.protocol.specs.Side.{Call, Side, most-calls}
 use Rattle.protocol.specs.Event.{Begun, Finished, begun, caller-ended, called-ended, Entry}
 use Rattle.protocol.specs.Step.{Reaction, new-hello, begin-call, call}
-use Rattle.protocol.specs.Symbols.{symbols, fresh, hello-term, by-key, key-seen}
+use Rattle.protocol.specs.Symbols.{fresh, hello-term, by-key, key-seen, Variant, primitives}
 use Rattle.protocol.proofs.Steps.{yes-same, by-need}
 use Rattle.protocol.proofs.Tables.{newest-bounded}
 use Rattle.protocol.proofs.Rows.{Rows, rows-map, rows-append, rows-newest, rows-high}
@@ -29,7 +29,7 @@ use Rattle.promise.proofs.Shapes.{fresh-time}
 use Rattle.promise.proofs.Sound.{Call-row, Seat, Sound, key-is, call-row-grows, grow-calls, grow-answers, grow-ended, Of-side, Fits, spoken}
 
 -- a call with a nonce of this moment was not ended before
-pub new-unended : {log : Log} → Fair log → (h : Hello Term) → h .nonce ≡ fresh (length log) .value 0 → (f : Finished Term) → Past log (caller-ended f) → hello-of (f .reply) ≡ h → ⊥
+pub new-unended : {v : Variant} {log : Log} → Fair v log → (h : Hello Term) → h .nonce ≡ fresh (length log) .value 0 → (f : Finished Term) → Past log (caller-ended f) → hello-of (f .reply) ≡ h → ⊥
 new-unended {log} fair h n f p e =
     let j = the-caller-end fair f p in
     let b = later (p .place) (j .calling) in
@@ -38,13 +38,13 @@ new-unended {log} fair h n f p e =
     omega arith
 
 -- the half of a drawn key
-pub half-is : (k : Key) → symbols .half (Secret k) ≡ half-of k
+pub half-is : (v : Variant) (k : Key) → primitives v .half (Secret k) ≡ half-of k
 unfolding by-key key-seen seen rise insert
-half-is k = refl
+half-is v k = refl
 
-module _ {preferences : List (List ℕ)} {log : Log} {n : ℕ} {s : Side Term} (fair : Fair log) (sound : Sound preferences log n s) (peer : ℕ) (their : Term) (found : nth (s .keys) peer ≡ Some their) where
+module _ {v : Variant} {preferences : List (List ℕ)} {log : Log} {n : ℕ} {s : Side Term} (fair : Fair v log) (sound : Sound preferences log n s) (peer : ℕ) (their : Term) (found : nth (s .keys) peer ≡ Some their) where
   abbrev hello : Hello Term
-  hello = new-hello symbols s peer (fresh (length log))
+  hello = new-hello (primitives v) s peer (fresh (length log))
 
   abbrev event : Begun Term
   event = record { me = s .me; their = their; hello = hello; secret = Secret (made (length log) 1) }
@@ -53,7 +53,7 @@ module _ {preferences : List (List ℕ)} {log : Log} {n : ℕ} {s : Side Term} (
   entry = record { what = begun event; words = hello-term hello ∷ [] }
 
   justified : Call-made event (hello-term hello ∷ []) log
-  justified = record { caller = refl; nonce = refl; half = half-is (made (length log) 1); secret = refl; their = key-is (sound .seat) peer their found; sent = refl }
+  justified = record { caller = refl; nonce = refl; half = half-is v (made (length log) 1); secret = refl; their = key-is (sound .seat) peer their found; sent = refl }
 
   abbrev row : Call Term
   row = record { hello = hello; secret = Secret (made (length log) 1); their = their }
@@ -72,7 +72,7 @@ module _ {preferences : List (List ℕ)} {log : Log} {n : ℕ} {s : Side Term} (
   grown : Rows (Call-row (entry ∷ log) n) (length log) 0 (s .calls)
   grown = rows-map (Call-row (entry ∷ log) n) (λ c t m r. call-row-grows entry log n c t r (λ f e h. other-kind (begun event) (caller-ended f) e refl)) (sound .calls)
 
-  begun-fits : Fits preferences log n (begin-call symbols s peer (fresh (length log)) their)
+  begun-fits : Fits v preferences log n (begin-call (primitives v) s peer (fresh (length log)) their)
   unfolding Justified
   begun-fits =
       spoken entry refl justified (record { caller = λ f e. absurd (other-kind (begun event) (caller-ended f) e refl); called = λ f e. absurd (other-kind (begun event) (called-ended f) e refl) })
@@ -86,8 +86,8 @@ module _ {preferences : List (List ℕ)} {log : Log} {n : ℕ} {s : Side Term} (
         few-ended = sound .few-ended;
       })
 
-pub call-fits : {preferences : List (List ℕ)} {log : Log} {n : ℕ} {s : Side Term} → Fair log → Sound preferences log n s → (peer : ℕ) (r : Reaction Term) → call symbols s peer (fresh (length log)) ≡ Yes r → Fits preferences log n r
+pub call-fits : {v : Variant} {preferences : List (List ℕ)} {log : Log} {n : ℕ} {s : Side Term} → Fair v log → Sound preferences log n s → (peer : ℕ) (r : Reaction Term) → call (primitives v) s peer (fresh (length log)) ≡ Yes r → Fits v preferences log n r
 unfolding call
-call-fits {preferences} {log} {n} {s} fair sound peer r e =
+call-fits {v} {preferences} {log} {n} {s} fair sound peer r e =
     let x = by-need wrong-side (nth (s .keys) peer) _ r e in
-    subst (λ z. Fits preferences log n z) (yes-same (begin-call symbols s peer (fresh (length log)) (x .0)) r (x .2)) (begun-fits fair sound peer (x .0) (x .1))
+    subst (λ z. Fits v preferences log n z) (yes-same (begin-call (primitives v) s peer (fresh (length log)) (x .0)) r (x .2)) (begun-fits fair sound peer (x .0) (x .1))

@@ -14,7 +14,8 @@ use Rattle.symbolic.proofs.Public as public
 use Rattle.symbolic.proofs.Public.{Ok, Few, but, Lawful, stays, ok-left, ok-right, ok-untag, ok-mac-key, raised-by-unknown, derives}
 use Rattle.protocol.specs.Words.{Reply}
 use Rattle.protocol.specs.Event.{Begun, Answered, Finished, Theft, Told, Held, held, Event, begun, answered, caller-ended, called-ended, stolen, taken, told, drew, spoke, Entry, heard}
-use Rattle.protocol.specs.Symbols.{hello-term, body-term, reply-term, claim-term, nothing}
+use Rattle.protocol.specs.Symbols.{hello-term, body-term, reply-term, nothing, Variant}
+use Rattle.promise.proofs.Variants.{Laws}
 use Rattle.promise.specs.Run.{Log, At, here, there, Past}
 use Rattle.promise.specs.Session.{hello-of}
 use Rattle.promise.proofs.Logs.{later, next, now-past, at-before, newest-at}
@@ -23,48 +24,48 @@ use Rattle.promise.proofs.Released as released
 use Rattle.promise.proofs.Released.{Known, Given, Signed, Closed, released-grows, end-signature, lock-of, sealing-key, half-of, Call-made, Answer-made, Caller-end, Called-end, Theft-done, Open-call, Keys-taken, Secret-told, Justified, Fair}
 
 -- a part of a fair log is fair
-pub fair-below : {log whole : Log} {e : Entry Term} → At e log whole → Fair whole → Fair log
-fair-below a fair e below b = fair e below (at-before b a)
+pub fair-below : {v : Variant} {log whole : Log} {e : Entry Term} → At e log whole → Fair v whole → Fair v log
+fair-below a fair = record { each = λ e below b. fair .each e below (at-before b a) }
 
-module _ {log : Log} (fair : Fair log) where
+module _ {v : Variant} {log : Log} (fair : Fair v log) where
   pub the-call : (b : Begun Term) (p : Past log (begun b)) → Call-made b (p .entry .words) (p .below)
   unfolding Justified
-  the-call b p = subst (λ w. Justified w (p .entry .words) (p .below)) (p .is) (fair (p .entry) (p .below) (p .place))
+  the-call b p = subst (λ w. Justified v w (p .entry .words) (p .below)) (p .is) (fair .each (p .entry) (p .below) (p .place))
 
-  pub the-answer : (a : Answered Term) (p : Past log (answered a)) → Answer-made a (p .entry .words) (p .below)
+  pub the-answer : (a : Answered Term) (p : Past log (answered a)) → Answer-made v a (p .entry .words) (p .below)
   unfolding Justified
-  the-answer a p = subst (λ w. Justified w (p .entry .words) (p .below)) (p .is) (fair (p .entry) (p .below) (p .place))
+  the-answer a p = subst (λ w. Justified v w (p .entry .words) (p .below)) (p .is) (fair .each (p .entry) (p .below) (p .place))
 
-  pub the-caller-end : (c : Finished Term) (p : Past log (caller-ended c)) → Caller-end c (p .entry .words) (p .below)
+  pub the-caller-end : (c : Finished Term) (p : Past log (caller-ended c)) → Caller-end v c (p .entry .words) (p .below)
   unfolding Justified
-  the-caller-end c p = subst (λ w. Justified w (p .entry .words) (p .below)) (p .is) (fair (p .entry) (p .below) (p .place))
+  the-caller-end c p = subst (λ w. Justified v w (p .entry .words) (p .below)) (p .is) (fair .each (p .entry) (p .below) (p .place))
 
-  pub the-called-end : (f : Finished Term) (p : Past log (called-ended f)) → Called-end f (p .entry .words) (p .below)
+  pub the-called-end : (f : Finished Term) (p : Past log (called-ended f)) → Called-end v f (p .entry .words) (p .below)
   unfolding Justified
-  the-called-end f p = subst (λ w. Justified w (p .entry .words) (p .below)) (p .is) (fair (p .entry) (p .below) (p .place))
+  the-called-end f p = subst (λ w. Justified v w (p .entry .words) (p .below)) (p .is) (fair .each (p .entry) (p .below) (p .place))
 
   pub the-theft : (t : Theft Term) (p : Past log (stolen t)) → Theft-done t (p .entry .words)
   unfolding Justified
-  the-theft t p = subst (λ w. Justified w (p .entry .words) (p .below)) (p .is) (fair (p .entry) (p .below) (p .place))
+  the-theft t p = subst (λ w. Justified v w (p .entry .words) (p .below)) (p .is) (fair .each (p .entry) (p .below) (p .place))
 
   pub the-taking : (t : Theft Term) (p : Past log (taken t)) → Keys-taken t (p .entry .words) (p .below)
   unfolding Justified
-  the-taking t p = subst (λ w. Justified w (p .entry .words) (p .below)) (p .is) (fair (p .entry) (p .below) (p .place))
+  the-taking t p = subst (λ w. Justified v w (p .entry .words) (p .below)) (p .is) (fair .each (p .entry) (p .below) (p .place))
 
   pub the-telling : (t : Told Term) (p : Past log (told t)) → Secret-told t (p .entry .words) (p .below)
   unfolding Justified
-  the-telling t p = subst (λ w. Justified w (p .entry .words) (p .below)) (p .is) (fair (p .entry) (p .below) (p .place))
+  the-telling t p = subst (λ w. Justified v w (p .entry .words) (p .below)) (p .is) (fair .each (p .entry) (p .below) (p .place))
 
   pub the-drawing : (p : Past log drew) → p .entry .words ≡ Fresh (length (p .below)) 0 ∷ Secret (made (length (p .below)) 0) ∷ []
   unfolding Justified
-  the-drawing p = subst (λ w. Justified w (p .entry .words) (p .below)) (p .is) (fair (p .entry) (p .below) (p .place))
+  the-drawing p = subst (λ w. Justified v w (p .entry .words) (p .below)) (p .is) (fair .each (p .entry) (p .below) (p .place))
 
   pub said-nothing : (n : ℕ) → Past log (spoke n) → ⊥
   unfolding Justified
-  said-nothing n p = subst (λ w. Justified w (p .entry .words) (p .below)) (p .is) (fair (p .entry) (p .below) (p .place))
+  said-nothing n p = subst (λ w. Justified v w (p .entry .words) (p .below)) (p .is) (fair .each (p .entry) (p .below) (p .place))
 
 -- nobody learns the key of a seal: it is wiped when the reply is sent
-pub seal-key-unknown : {log : Log} → Fair log → (t : ℕ) → Known log (made t 2) → ⊥
+pub seal-key-unknown : {v : Variant} {log : Log} → Fair v log → (t : ℕ) → Known log (made t 2) → ⊥
 seal-key-unknown fair t (released.everybody n e) = let h = key-kind 1 t 2 2 n 0 e in omega arith
 seal-key-unknown fair t (released.by-theft v p e) = let h = key-kind 1 t 2 0 (v .who) 0 e in omega arith
 seal-key-unknown fair t (released.by-taking v p m) = go (the-taking fair v p .each (Secret (made t 2)) m)
@@ -107,36 +108,40 @@ past-is p e = record { entry = p .entry; below = p .below; place = p .place; is 
 
 -- What was closed is public if its key is: a session secret, since then the hello's half was made of known keys;
 -- and what an end holds, since then the secret is public that it is locked with.
-opened : {log : Log} → Fair log → {k h m : Term} {n : ℕ} → Closed log k n h m → Ok (released.released log) k → Ok (released.released log) m
-opened {log} fair {k} {h} {m} {n} (released.a-seal a p e) o =
+opened : {v : Variant} {log : Log} → Laws v → Fair v log → {k h m : Term} {n : ℕ} → Closed v log k n h m → Ok (released.released v log) k → Ok (released.released v log) m
+opened {v} {log} laws fair {k} {h} {m} {n} (released.a-seal a p e) o =
     let j = the-answer fair a p in
     let t = length (p .below) in
     let half = hello-of (a .reply) .half in
     let shape = e ∙ j .box in
-    let c : Ok (released.released log) (rise (made t 2) half) = ok-mac-key (subst (λ x. Ok (released.released log) x) (close-key k (sealing-key (made t 2) half half (half-of (made t 2))) h nothing m (Fresh t 1) n 0 shape) o) in
-    let r = raised-by-unknown (made t 2) (seal-key-unknown fair t) half (j .apart) c in
-    subst (λ x. Ok (released.released log) x) (sym (close-content k (sealing-key (made t 2) half half (half-of (made t 2))) h nothing m (Fresh t 1) n 0 shape)) (public.fresh (released.by-sealing a p refl refl (r .0) (r .1) (r .2)))
-opened {log} fair {k} {h} {m} {n} (released.a-lock f p e) o =
+    let c : Ok (released.released v log) (rise (made t 2) half) = ok-mac-key (subst (λ x. Ok (released.released v log) x) (close-key k (sealing-key (made t 2) half half (half-of (made t 2))) h nothing m (Fresh t 1) n 0 shape) o) in
+    let g = known (raised-by-unknown (made t 2) (seal-key-unknown fair t) half c) in
+    subst (λ x. Ok (released.released v log) x) (sym (close-content k (sealing-key (made t 2) half half (half-of (made t 2))) h nothing m (Fresh t 1) n 0 shape)) (public.fresh g)
+  where
+    known : (rise (made (length (p .below)) 2) (hello-of (a .reply) .half) ≡ One) ⊎ ((ks : List Key) × (hello-of (a .reply) .half ≡ Element ks) × ((x : Key) → List·Memᴰ x ks → Known log x)) → Given log (length (p .below)) 1
+    known (inl e) = released.by-one a p refl refl e
+    known (inr r) = released.by-sealing a p refl refl (r .0) (r .1) (r .2)
+opened {v} {log} laws fair {k} {h} {m} {n} (released.a-lock f p e) o =
     let j = the-caller-end fair f p in
-    let w = stays (released-grows (p .place)) (j .public) in
-    let s : Ok (released.released log) (f .secret) = ok-mac-key (subst (λ x. Ok (released.released log) x) (close-key k (Mac (f .secret) (Number 1 derive-lock)) h nothing m (Both (reply-term (f .reply)) (end-signature (f .me) (f .reply))) n 0 e) o) in
-    subst (λ x. Ok (released.released log) x) (sym (close-content k (Mac (f .secret) (Number 1 derive-lock)) h nothing m (Both (reply-term (f .reply)) (end-signature (f .me) (f .reply))) n 0 e)) (public.both w (public.signed (f .secret) (released.an-end f p refl refl refl) s (public.tag w)))
+    let w = stays (released-grows v (p .place)) (j .public) in
+    let s : Ok (released.released v log) (f .secret) = ok-mac-key (subst (λ x. Ok (released.released v log) x) (close-key k (Mac (f .secret) (Number 1 derive-lock)) h nothing m (Both (reply-term (f .reply)) (end-signature v (f .me) (f .reply))) n 0 e) o) in
+    subst (λ x. Ok (released.released v log) x) (sym (close-content k (Mac (f .secret) (Number 1 derive-lock)) h nothing m (Both (reply-term (f .reply)) (end-signature v (f .me) (f .reply))) n 0 e)) (public.both w (public.signed (f .secret) (released.an-end f p refl refl refl) s (laws .claim-public log (reply-term (f .reply)) w)))
 
-pub lawful : {log : Log} → Fair log → Lawful (released.released log)
-lawful fair = record { plain-known = λ n. released.everybody n refl; opens = opened fair }
+pub lawful : {v : Variant} {log : Log} → Laws v → Fair v log → Lawful (released.released v log)
+lawful laws fair = record { plain-known = λ n. released.everybody n refl; opens = opened laws fair }
 
 -- the parts of a public reply
-pub reply-box : {log : Log} (r : Reply Term) → Ok (released.released log) (reply-term r) → Ok (released.released log) (r .body .box)
+pub reply-box : {v : Variant} {log : Log} (r : Reply Term) → Ok (released.released v log) (reply-term r) → Ok (released.released v log) (r .body .box)
 reply-box r o = ok-right (ok-right (ok-right (ok-right (ok-untag (ok-left o)))))
 
-pub reply-signature : {log : Log} (r : Reply Term) → Ok (released.released log) (reply-term r) → Ok (released.released log) (r .signature)
+pub reply-signature : {v : Variant} {log : Log} (r : Reply Term) → Ok (released.released v log) (reply-term r) → Ok (released.released v log) (r .signature)
 reply-signature r o = ok-right o
 
 -- a session that a caller ended has its secret from a box that somebody made who had the secret, or from the box of an answer
-pub secret-source : {log : Log} → Fair log → (c : Finished Term) (p : Past log (caller-ended c)) → Ok (released.released (p .below)) (c .secret) ⊎ ((a : Answered Term) × (q : Past (p .below) (answered a)) × (c .reply .body .box ≡ a .reply .body .box))
-secret-source {log} fair c p = go (public.ok-closed (subst (λ x. Ok (released.released (p .below)) x) (j .box) (reply-box (c .reply) (j .public))))
+pub secret-source : {v : Variant} {log : Log} → Fair v log → (c : Finished Term) (p : Past log (caller-ended c)) → Ok (released.released v (p .below)) (c .secret) ⊎ ((a : Answered Term) × (q : Past (p .below) (answered a)) × (c .reply .body .box ≡ a .reply .body .box))
+secret-source {v} {log} fair c p = go (public.ok-closed (subst (λ x. Ok (released.released v (p .below)) x) (j .box) (reply-box (c .reply) (j .public))))
   where
-    j : Caller-end c (p .entry .words) (p .below)
+    j : Caller-end v c (p .entry .words) (p .below)
     j = the-caller-end fair c p
 
     x : Key
@@ -145,16 +150,16 @@ secret-source {log} fair c p = go (public.ok-closed (subst (λ x. Ok (released.r
     k : Term
     k = sealing-key x (c .reply .body .seal) (half-of x) (c .reply .body .seal)
 
-    made-by-side : Closed (p .below) k 0 nothing (c .secret) → Ok (released.released (p .below)) (c .secret) ⊎ ((a : Answered Term) × (q : Past (p .below) (answered a)) × (c .reply .body .box ≡ a .reply .body .box))
+    made-by-side : Closed v (p .below) k 0 nothing (c .secret) → Ok (released.released v (p .below)) (c .secret) ⊎ ((a : Answered Term) × (q : Past (p .below) (answered a)) × (c .reply .body .box ≡ a .reply .body .box))
     made-by-side (released.a-seal a q e) = inr (a, q, j .box ∙ e)
-    made-by-side (released.a-lock f q e) = absurd (pair-number (half-of x) (c .reply .body .seal) 1 derive-lock (mac-content (rise x (c .reply .body .seal)) (f .secret) (Both (half-of x) (c .reply .body .seal)) (Number 1 derive-lock) (close-key k (Mac (f .secret) (Number 1 derive-lock)) nothing nothing (c .secret) (Both (reply-term (f .reply)) (end-signature (f .me) (f .reply))) 0 0 e)))
+    made-by-side (released.a-lock f q e) = absurd (pair-number (half-of x) (c .reply .body .seal) 1 derive-lock (mac-content (rise x (c .reply .body .seal)) (f .secret) (Both (half-of x) (c .reply .body .seal)) (Number 1 derive-lock) (close-key k (Mac (f .secret) (Number 1 derive-lock)) nothing nothing (c .secret) (Both (reply-term (f .reply)) (end-signature v (f .me) (f .reply))) 0 0 e)))
 
-    go : (Ok (released.released (p .below)) k × Ok (released.released (p .below)) (c .secret)) ⊎ Closed (p .below) k 0 nothing (c .secret) → Ok (released.released (p .below)) (c .secret) ⊎ ((a : Answered Term) × (q : Past (p .below) (answered a)) × (c .reply .body .box ≡ a .reply .body .box))
+    go : (Ok (released.released v (p .below)) k × Ok (released.released v (p .below)) (c .secret)) ⊎ Closed v (p .below) k 0 nothing (c .secret) → Ok (released.released v (p .below)) (c .secret) ⊎ ((a : Answered Term) × (q : Past (p .below) (answered a)) × (c .reply .body .box ≡ a .reply .body .box))
     go (inl o) = inl (o .1)
     go (inr y) = made-by-side y
 
 -- the secret in the box of an answer, opened by a caller, is the answer's
-pub same-box : {log : Log} → Fair log → (c : Finished Term) (p : Past log (caller-ended c)) (a : Answered Term) (q : Past log (answered a)) → c .reply .body .box ≡ a .reply .body .box → c .secret ≡ a .secret
+pub same-box : {v : Variant} {log : Log} → Fair v log → (c : Finished Term) (p : Past log (caller-ended c)) (a : Answered Term) (q : Past log (answered a)) → c .reply .body .box ≡ a .reply .body .box → c .secret ≡ a .secret
 same-box fair c p a q e =
     let j = the-caller-end fair c p in
     let i = the-answer fair a q in
@@ -178,98 +183,98 @@ two-words {t} {v} {w} {ws} e m = go (List·Memᴰ·cases-cons (subst (λ l. List
     go (inr n) = inr (one-word refl n)
 
 -- the half of any key may be public
-half-public : {log : Log} (k : Key) → Ok (released.released log) (half-of k)
+half-public : {v : Variant} {log : Log} (k : Key) → Ok (released.released v log) (half-of k)
 unfolding insert
 half-public k = public.element (but k [] refl (λ x m. elim m [ ]))
 
-module _ {log : Log} (fair : Fair log) where
-  ok-by : {t w : Term} → t ≡ w → Ok (released.released log) w → Ok (released.released log) t
-  ok-by e o = subst (λ x. Ok (released.released log) x) (sym e) o
+module _ {v : Variant} {log : Log} (laws : Laws v) (fair : Fair v log) where
+  ok-by : {t w : Term} → t ≡ w → Ok (released.released v log) w → Ok (released.released v log) t
+  ok-by e o = subst (λ x. Ok (released.released v log) x) (sym e) o
 
-  call-public : (b : Begun Term) (p : Past log (begun b)) (t : Term) → List·Memᴰ t (p .entry .words) → Ok (released.released log) t
+  call-public : (b : Begun Term) (p : Past log (begun b)) (t : Term) → List·Memᴰ t (p .entry .words) → Ok (released.released v log) t
   call-public b p t m =
       let j = the-call fair b p in
       ok-by (one-word (j .sent) m) (public.tag (public.both public.number (public.both public.number (public.both public.listed (public.both (ok-by (j .nonce) (public.fresh (released.nonce-begun b p refl refl))) (ok-by (j .half) (half-public (made (length (p .below)) 1))))))))
 
-  answer-public : (a : Answered Term) (p : Past log (answered a)) (t : Term) → List·Memᴰ t (p .entry .words) → Ok (released.released log) t
+  answer-public : (a : Answered Term) (p : Past log (answered a)) (t : Term) → List·Memᴰ t (p .entry .words) → Ok (released.released v log) t
   answer-public a p t m =
       let j = the-answer fair a p in
-      let box : Ok (released.released log) (a .reply .body .box) = ok-by (j .box) (public.closed (released.a-seal a p (sym (j .box))) public.number) in
-      let body : Ok (released.released log) (body-term (a .reply .body)) = public.tag (public.both (stays (released-grows (p .place)) (j .public)) (public.both public.number (public.both (ok-by (j .nonce) (public.fresh (released.nonce-answered a p refl refl))) (public.both (ok-by (j .seal) (half-public (made (length (p .below)) 2))) box)))) in
-      ok-by (one-word (j .sent) m) (public.both body (ok-by (j .signature) (public.signed nothing (released.a-reply a p refl refl) public.number body)))
+      let box : Ok (released.released v log) (a .reply .body .box) = ok-by (j .box) (public.closed (released.a-seal a p (sym (j .box))) public.number) in
+      let body : Ok (released.released v log) (body-term (a .reply .body)) = public.tag (public.both (stays (released-grows v (p .place)) (j .public)) (public.both public.number (public.both (ok-by (j .nonce) (public.fresh (released.nonce-answered a p refl refl))) (public.both (ok-by (j .seal) (half-public (made (length (p .below)) 2))) box)))) in
+      ok-by (one-word (j .sent) m) (public.both body (ok-by (j .signature) (public.signed nothing (released.a-reply a p refl refl) public.number (laws .body-public log (a .reply .body) body))))
 
-  end-public : (c : Finished Term) (p : Past log (caller-ended c)) (t : Term) → List·Memᴰ t (p .entry .words) → Ok (released.released log) t
+  end-public : (c : Finished Term) (p : Past log (caller-ended c)) (t : Term) → List·Memᴰ t (p .entry .words) → Ok (released.released v log) t
   end-public c p t m = let j = the-caller-end fair c p in ok-by (one-word (j .sent) m) (public.tag (public.closed (released.a-lock c p refl) public.number))
 
-  theft-public : (v : Theft Term) (p : Past log (stolen v)) (t : Term) → List·Memᴰ t (p .entry .words) → Ok (released.released log) t
-  theft-public v p t m = let j = the-theft fair v p in ok-by (one-word (j .sent) m) (public.secret (released.by-theft v p refl))
+  theft-public : (robbed : Theft Term) (p : Past log (stolen robbed)) (t : Term) → List·Memᴰ t (p .entry .words) → Ok (released.released v log) t
+  theft-public robbed p t m = let j = the-theft fair robbed p in ok-by (one-word (j .sent) m) (public.secret (released.by-theft robbed p refl))
 
-  taking-public : (v : Theft Term) (p : Past log (taken v)) (t : Term) → List·Memᴰ t (p .entry .words) → Ok (released.released log) t
-  taking-public v p t m = go (the-taking fair v p .each t m)
+  taking-public : (robbed : Theft Term) (p : Past log (taken robbed)) (t : Term) → List·Memᴰ t (p .entry .words) → Ok (released.released v log) t
+  taking-public robbed p t m = go (the-taking fair robbed p .each t m)
     where
-      known : (k : Key) → t ≡ Secret k → Ok (released.released log) t
-      known k e = ok-by e (public.secret (released.by-taking v p (subst (λ x. List·Memᴰ x (p .entry .words)) e m)))
+      known : (k : Key) → t ≡ Secret k → Ok (released.released v log) t
+      known k e = ok-by e (public.secret (released.by-taking robbed p (subst (λ x. List·Memᴰ x (p .entry .words)) e m)))
 
-      go : (t ≡ Secret (own (v .who) 0)) ⊎ Open-call (v .who) t (p .below) → Ok (released.released log) t
-      go (inl e) = known (own (v .who) 0) e
+      go : (t ≡ Secret (own (robbed .who) 0)) ⊎ Open-call (robbed .who) t (p .below) → Ok (released.released v log) t
+      go (inl e) = known (own (robbed .who) 0) e
       go (inr o) = let b = the-call (fair-below (p .place) fair) (o .call) (o .calling) in known (made (length (o .calling .below)) 1) (sym (o .same) ∙ b .secret)
 
-  drawn-public : (p : Past log drew) (t : Term) → List·Memᴰ t (p .entry .words) → Ok (released.released log) t
+  drawn-public : (p : Past log drew) (t : Term) → List·Memᴰ t (p .entry .words) → Ok (released.released v log) t
   drawn-public p t m = go (two-words (the-drawing fair p) m)
     where
-      go : (t ≡ Fresh (length (p .below)) 0) ⊎ (t ≡ Secret (made (length (p .below)) 0)) → Ok (released.released log) t
+      go : (t ≡ Fresh (length (p .below)) 0) ⊎ (t ≡ Secret (made (length (p .below)) 0)) → Ok (released.released v log) t
       go (inl e) = ok-by e (public.fresh (released.by-drawing p refl refl))
       go (inr e) = ok-by e (public.secret (released.by-drawing p refl))
 
-  telling-public : (k : Told Term) (p : Past log (told k)) (t : Term) → List·Memᴰ t (p .entry .words) → Ok (released.released log) t
+  telling-public : (k : Told Term) (p : Past log (told k)) (t : Term) → List·Memᴰ t (p .entry .words) → Ok (released.released v log) t
   telling-public k p t m = ok-by (one-word (j .sent) m) (go (j .session) (j .having) (holder (j .session) (k .who) (k .secret) (j .holds)))
     where
       j : Secret-told k (p .entry .words) (p .below)
       j = the-telling fair k p
 
-      lower : Fair (p .below)
+      lower : Fair v (p .below)
       lower = fair-below (p .place) fair
 
-      told-fresh : (n : ℕ) → k .secret ≡ Fresh n 1 → Ok (released.released log) (k .secret)
+      told-fresh : (n : ℕ) → k .secret ≡ Fresh n 1 → Ok (released.released v log) (k .secret)
       told-fresh n e = ok-by e (public.fresh (released.by-telling k p e))
 
-      opened-it : (c : Finished Term) (q : Past (p .below) (caller-ended c)) → c .secret ≡ k .secret → Ok (released.released (q .below)) (c .secret) ⊎ ((a : Answered Term) × (r : Past (q .below) (answered a)) × (c .reply .body .box ≡ a .reply .body .box)) → Ok (released.released log) (k .secret)
-      opened-it c q e (inl o) = subst (λ x. Ok (released.released log) x) e (stays (released-grows (p .place)) (stays (released-grows (q .place)) o))
+      opened-it : (c : Finished Term) (q : Past (p .below) (caller-ended c)) → c .secret ≡ k .secret → Ok (released.released v (q .below)) (c .secret) ⊎ ((a : Answered Term) × (r : Past (q .below) (answered a)) × (c .reply .body .box ≡ a .reply .body .box)) → Ok (released.released v log) (k .secret)
+      opened-it c q e (inl o) = subst (λ x. Ok (released.released v log) x) e (stays (released-grows v (p .place)) (stays (released-grows v (q .place)) o))
       opened-it c q e (inr r) = told-fresh (length (r .1 .below)) (sym e ∙ same-box lower c q (r .0) (later (q .place) (r .1)) (r .2) ∙ the-answer lower (r .0) (later (q .place) (r .1)) .secret)
 
-      go : (s : Event Term) → Past (p .below) s → Holder s (k .who) (k .secret) → Ok (released.released log) (k .secret)
+      go : (s : Event Term) → Past (p .below) s → Holder s (k .who) (k .secret) → Ok (released.released v log) (k .secret)
       go s q (an-answerer a e f g) = let r = past-is q e in told-fresh (length (r .below)) (sym g ∙ the-answer lower a r .secret)
       go s q (a-caller c e f g) = let r = past-is q e in opened-it c r g (secret-source lower c r)
       go s q (a-called c e f g) = let r = past-is q e in let i = the-called-end lower c r in told-fresh (length (i .answering .below)) (sym g ∙ sym (i .secret) ∙ the-answer lower (i .answer) (later (r .place) (i .answering)) .secret)
 
 -- what was sent with the newest entry is public
-sent-public : (e : Entry Term) (log : Log) → Fair (e ∷ log) → (t : Term) → List·Memᴰ t (e .words) → Ok (released.released (e ∷ log)) t
-sent-public e log fair t m = go (e .what) refl
+sent-public : {v : Variant} → Laws v → (e : Entry Term) (log : Log) → Fair v (e ∷ log) → (t : Term) → List·Memᴰ t (e .words) → Ok (released.released v (e ∷ log)) t
+sent-public {v} laws e log fair t m = go (e .what) refl
   where
     at : (w : Event Term) → e .what ≡ w → Past (e ∷ log) w
     at w f = record { entry = e; below = log; place = here refl refl; is = f }
 
-    go : (w : Event Term) → e .what ≡ w → Ok (released.released (e ∷ log)) t
-    go (begun b) f = call-public fair b (at (begun b) f) t m
-    go (answered a) f = answer-public fair a (at (answered a) f) t m
-    go (caller-ended c) f = end-public fair c (at (caller-ended c) f) t m
+    go : (w : Event Term) → e .what ≡ w → Ok (released.released v (e ∷ log)) t
+    go (begun b) f = call-public laws fair b (at (begun b) f) t m
+    go (answered a) f = answer-public laws fair a (at (answered a) f) t m
+    go (caller-ended c) f = end-public laws fair c (at (caller-ended c) f) t m
     go (called-ended c) f = elim (subst (λ l. List·Memᴰ t l) (the-called-end fair c (at (called-ended c) f) .sent) m) [ ]
-    go (stolen v) f = theft-public fair v (at (stolen v) f) t m
-    go (taken v) f = taking-public fair v (at (taken v) f) t m
-    go (told k) f = telling-public fair k (at (told k) f) t m
-    go drew f = drawn-public fair (at drew f) t m
+    go (stolen v) f = theft-public laws fair v (at (stolen v) f) t m
+    go (taken v) f = taking-public laws fair v (at (taken v) f) t m
+    go (told k) f = telling-public laws fair k (at (told k) f) t m
+    go drew f = drawn-public laws fair (at drew f) t m
     go (spoke n) f = absurd (said-nothing fair n (at (spoke n) f))
 
 -- in a fair log all that was heard is public
-pub heard-public : (log : Log) → Fair log → (t : Term) → List·Memᴰ t (heard log) → Ok (released.released log) t
+pub heard-public : {v : Variant} → Laws v → (log : Log) → Fair v log → (t : Term) → List·Memᴰ t (heard log) → Ok (released.released v log) t
 unfolding heard
-heard-public [] fair t m = elim m [ ]
-heard-public (e ∷ log) fair t m = go (List·Memᴰ·append-cases (e .words) m) (heard-public log (fair-below (newest-at e log) fair) t)
+heard-public laws [] fair t m = elim m [ ]
+heard-public {v} laws (e ∷ log) fair t m = go (List·Memᴰ·append-cases (e .words) m) (heard-public laws log (fair-below (newest-at e log) fair) t)
   where
-    go : List·Memᴰ t (e .words) ⊎ List·Memᴰ t (heard log) → (List·Memᴰ t (heard log) → Ok (released.released log) t) → Ok (released.released (e ∷ log)) t
-    go (inl n) rest = sent-public e log fair t n
-    go (inr n) rest = stays (released-grows (newest-at e log)) (rest n)
+    go : List·Memᴰ t (e .words) ⊎ List·Memᴰ t (heard log) → (List·Memᴰ t (heard log) → Ok (released.released v log) t) → Ok (released.released v (e ∷ log)) t
+    go (inl n) rest = sent-public laws e log fair t n
+    go (inr n) rest = stays (released-grows v (newest-at e log)) (rest n)
 
 -- and so is all that can be derived from it
-pub derivable-public : {log : Log} → Fair log → {t : Term} → Gets (heard log) t → Ok (released.released log) t
-derivable-public {log} fair g = derives (lawful fair) (heard-public log fair) g
+pub derivable-public : {v : Variant} {log : Log} → Laws v → Fair v log → {t : Term} → Gets (heard log) t → Ok (released.released v log) t
+derivable-public {v} {log} laws fair g = derives (lawful laws fair) (heard-public laws log fair) g

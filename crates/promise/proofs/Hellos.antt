@@ -21,7 +21,7 @@ use Rattle.protocol.specs.Words.{Hello, Body, Reply}
 use Rattle.protocol.specs.Side.{Answer, Side, most-answers}
 use Rattle.protocol.specs.Event.{Answered, Finished, answered, caller-ended, called-ended, Entry}
 use Rattle.protocol.specs.Step.{Reaction, new-body, new-reply, give-answer, take-hello}
-use Rattle.protocol.specs.Symbols.{symbols, fresh, hello-term, body-term, reply-term, by-key, key-seen}
+use Rattle.protocol.specs.Symbols.{fresh, hello-term, reply-term, by-key, key-seen, Variant, primitives}
 use Rattle.protocol.proofs.Steps.{yes-same, by-guard, by-need}
 use Rattle.protocol.proofs.Tables.{newest-bounded}
 use Rattle.protocol.proofs.Rows.{Rows, rows-map, rows-append, rows-newest}
@@ -36,16 +36,16 @@ use Rattle.promise.proofs.Sound.{Answer-row, Seat, Sound, key-is, answer-row-g
 use Rattle.promise.proofs.Calls.{half-is}
 
 -- what a side signs with its own key
-pub signed-by : {preferences : List (List ℕ)} {n : ℕ} {s : Side Term} → Seat preferences n s → (m : Term) → symbols .sign (s .own) m ≡ Sign (own (s .me) 0) m
+pub signed-by : (v : Variant) {preferences : List (List ℕ)} {n : ℕ} {s : Side Term} → Seat preferences n s → (m : Term) → primitives v .sign (s .own) m ≡ Sign (own (s .me) 0) m
 unfolding by-key key-seen seen
-signed-by seat m = ap (λ x. symbols .sign x m) (seat .own-key) ∙ ap (λ x. Sign (own x 0) m) (sym (seat .me))
+signed-by v seat m = ap (λ x. primitives v .sign x m) (seat .own-key) ∙ ap (λ x. Sign (own x 0) m) (sym (seat .me))
 
-pub common-is : (k : Key) (e : Term) → symbols .common (Secret k) e ≡ rise k e
+pub common-is : (v : Variant) (k : Key) (e : Term) → primitives v .common (Secret k) e ≡ rise k e
 unfolding by-key key-seen seen
-common-is k e = refl
+common-is v k e = refl
 
 -- an answer with a nonce of this moment was not ended before
-new-unended : {log : Log} → Fair log → (r : Reply Term) → r .body .nonce ≡ Fresh (length log) 0 → (f : Finished Term) → Past log (called-ended f) → f .reply ≡ r → ⊥
+new-unended : {v : Variant} {log : Log} → Fair v log → (r : Reply Term) → r .body .nonce ≡ Fresh (length log) 0 → (f : Finished Term) → Past log (called-ended f) → f .reply ≡ r → ⊥
 new-unended {log} fair r n f p e =
     let j = the-called-end fair f p in
     let a = later (p .place) (j .answering) in
@@ -53,12 +53,12 @@ new-unended {log} fair r n f p e =
     let s = at-shorter (a .place) in
     omega arith
 
-module _ {preferences : List (List ℕ)} {log : Log} {n : ℕ} {s : Side Term} (fair : Fair log) (sound : Sound preferences log n s) (h : Hello Term) (their : Term) (c : ℕ) (for-me : h .called ≡ s .me) (found : nth (s .keys) (h .caller) ≡ Some their) (chosen : choose (s .preferences) (h .offer) ≡ Some c) (apart : same (symbols .common (Secret (made (length log) 2)) (h .half)) One ≡ false) (public : Ok (released log) (hello-term h)) where
+module _ {v : Variant} {preferences : List (List ℕ)} {log : Log} {n : ℕ} {s : Side Term} (fair : Fair v log) (sound : Sound preferences log n s) (h : Hello Term) (their : Term) (c : ℕ) (for-me : h .called ≡ s .me) (found : nth (s .keys) (h .caller) ≡ Some their) (chosen : choose (s .preferences) (h .offer) ≡ Some c) (public : Ok (released v log) (hello-term h)) where
   abbrev body : Body Term
-  body = new-body symbols h c (fresh (length log))
+  body = new-body (primitives v) h c (fresh (length log))
 
   abbrev reply : Reply Term
-  reply = new-reply symbols (s .own) body
+  reply = new-reply (primitives v) (s .own) body
 
   abbrev event : Answered Term
   event = record { me = s .me; their = their; preferences = s .preferences; reply = reply; secret = Fresh (length log) 1 }
@@ -66,7 +66,7 @@ module _ {preferences : List (List ℕ)} {log : Log} {n : ℕ} {s : Side Term} (
   abbrev entry : Entry Term
   entry = record { what = answered event; words = reply-term reply ∷ [] }
 
-  justified : Answer-made event (reply-term reply ∷ []) log
+  justified : Answer-made v event (reply-term reply ∷ []) log
   unfolding by-key key-seen seen rise insert
   justified = record {
     me = for-me;
@@ -75,9 +75,8 @@ module _ {preferences : List (List ℕ)} {log : Log} {n : ℕ} {s : Side Term} (
     secret = refl;
     seal = refl;
     box = refl;
-    signature = signed-by (sound .seat) (body-term body);
+    signature = signed-by v (sound .seat) (v .body body);
     best = chosen;
-    apart = λ e. both-ways (same (rise (made (length log) 2) (h .half)) One) apart (is-same (rise (made (length log) 2) (h .half)) One e);
     public = public;
     sent = refl;
   }
@@ -99,7 +98,7 @@ module _ {preferences : List (List ℕ)} {log : Log} {n : ℕ} {s : Side Term} (
   grown : Rows (Answer-row (entry ∷ log) n) (length log) 0 (s .answers)
   grown = rows-map (Answer-row (entry ∷ log) n) (λ x t m r. answer-row-grows entry log n x t r (λ f e g. other-kind (answered event) (called-ended f) e refl)) (sound .answers)
 
-  answer-fits : Fits preferences log n (give-answer symbols s h (fresh (length log)) their c)
+  answer-fits : Fits v preferences log n (give-answer (primitives v) s h (fresh (length log)) their c)
   unfolding Justified
   answer-fits =
       spoken entry refl justified (record { caller = λ f e. absurd (other-kind (answered event) (caller-ended f) e refl); called = λ f e. absurd (other-kind (answered event) (called-ended f) e refl) })
@@ -113,12 +112,12 @@ module _ {preferences : List (List ℕ)} {log : Log} {n : ℕ} {s : Side Term} (
         few-ended = sound .few-ended;
       })
 
-pub hello-fits : {preferences : List (List ℕ)} {log : Log} {n : ℕ} {s : Side Term} → Fair log → Sound preferences log n s → (h : Hello Term) → Ok (released log) (hello-term h) → (r : Reaction Term) → take-hello symbols s h (fresh (length log)) ≡ Yes r → Fits preferences log n r
+pub hello-fits : {v : Variant} {preferences : List (List ℕ)} {log : Log} {n : ℕ} {s : Side Term} → Fair v log → Sound preferences log n s → (h : Hello Term) → Ok (released v log) (hello-term h) → (r : Reaction Term) → take-hello (primitives v) s h (fresh (length log)) ≡ Yes r → Fits v preferences log n r
 unfolding take-hello
-hello-fits {preferences} {log} {n} {s} fair sound h heard r e =
+hello-fits {v} {preferences} {log} {n} {s} fair sound h heard r e =
     let a = by-guard wrong-side (eqb (h .called) (s .me)) _ r e in
     let b = by-need wrong-side (nth (s .keys) (h .caller)) _ r (a .1) in
     let c = by-need nothing-in-common (choose (s .preferences) (h .offer)) _ r (b .2) in
-    let d = by-guard common-one (not (same (symbols .common (Secret (made (length log) 2)) (h .half)) One)) _ r (c .2) in
-    subst (λ z. Fits preferences log n z) (yes-same (give-answer symbols s h (fresh (length log)) (b .0) (c .0)) r (d .1))
-    (answer-fits fair sound h (b .0) (c .0) (eqb-true (h .called) (s .me) (a .0)) (b .1) (c .1) (not-true (same (symbols .common (Secret (made (length log) 2)) (h .half)) One) (d .0)) heard)
+    let d = by-guard common-one (not (same (primitives v .common (Secret (made (length log) 2)) (h .half)) (v .one))) _ r (c .2) in
+    subst (λ z. Fits v preferences log n z) (yes-same (give-answer (primitives v) s h (fresh (length log)) (b .0) (c .0)) r (d .1))
+    (answer-fits fair sound h (b .0) (c .0) (eqb-true (h .called) (s .me) (a .0)) (b .1) (c .1) heard)

@@ -17,12 +17,13 @@ use Rattle.protocol.specs.Side.{Call, Answer, Session, Side, most-calls, most-a
 use Rattle.protocol.specs.Event.{Begun, Answered, Finished, Event, begun, answered, caller-ended, called-ended, held, heard}
 use Rattle.protocol.specs.World as world
 use Rattle.protocol.specs.World.{rules, World, handle, settled, acted, play}
-use Rattle.protocol.specs.Symbols.{symbols, fresh}
+use Rattle.protocol.specs.Symbols.{symbols, fresh, Variant, primitives}
 use Rattle.protocol.proofs.Rows.{Rows, rows-pair}
 use Rattle.promise.specs.Run.{Log, At, here, there, Past, safe, untaken}
 use Rattle.promise.specs.Session as session
 use Rattle.promise.specs.Session.{hello-of, Ended-before, Same-session, Sure, Given-away, Taken-while-open, Out}
 use Rattle.promise.specs.Promise.{Right-keys, Caller-has-partner, Called-has-partner, One-each, Ends-by-its-words, Unshared, Secret-kept, Partner-out, Called-secret-kept, Only-given-away, Nobody-else, Nobody-else-has-it, Choice-offered, Unheard, Refusal-is-silent, Bounded, In-order, Oldest-goes, Tables-hold-the-newest}
+use Rattle.promise.proofs.Variants.{Laws}
 use Rattle.promise.proofs.Events.{caller-same}
 use Rattle.promise.proofs.Logs.{later, none-taken, at-split}
 use Rattle.promise.proofs.Released.{Fair}
@@ -41,24 +42,24 @@ oldest-goes n = record {
   full = λ xs x h. let k : length (xs ++ x ∷ []) - n ≡ 1 = simp length-append (omega arith) in ap (λ m. drop m (xs ++ x ∷ [])) k;
 }
 
-module _ {preferences : List (List ℕ)} {w : World Term} (good : Good preferences w) where
-  abbrev just : Fair (w .log)
+module _ {v : Variant} (laws : Laws v) {preferences : List (List ℕ)} {w : World Term} (good : Good v preferences w) where
+  abbrev just : Fair v (w .log)
   just = good .fair
 
   pub right-keys : Right-keys w
   right-keys = record { of-called = λ c p. the-caller-end just c p .their; of-caller = λ f p. the-called-end just f p .their }
 
   pub caller-partner : Caller-has-partner w
-  caller-partner c p s = has-answerer just c p s
+  caller-partner c p s = has-answerer laws just c p s
 
   pub called-partner : Called-has-partner w
-  called-partner f p s = has-caller just f p s
+  called-partner f p s = has-caller laws just f p s
 
   -- two sure callers with one secret have one partner, so one reply and one hello
   sure-callers : (c d : Finished Term) (p : Past (w .log) (caller-ended c)) (q : Past (w .log) (caller-ended d)) → safe (c .their) (p .below) ≡ true → safe (d .their) (q .below) ≡ true → c .secret ≡ d .secret → p .below ≡ q .below
   sure-callers c d p q s t e =
-      let x = has-answerer just c p s in
-      let y = has-answerer just d q t in
+      let x = has-answerer laws just c p s in
+      let y = has-answerer laws just d q t in
       let u = later (p .place) (x .answering) in
       let v = later (q .place) (y .answering) in
       let n = answer-time just (x .answer) (y .answer) u v (x .same .secret ∙ e ∙ sym (y .same .secret)) in
@@ -79,14 +80,14 @@ module _ {preferences : List (List ℕ)} {w : World Term} (good : Good preferenc
   by-its-words c d p q e = same-body just c d p q e
 
   pub unshared : Unshared w
-  unshared c p s d q e = let a = sure-answer just c p s in shared-out just c p (a .0) (a .1) (a .2) d q e
+  unshared c p s d q e = let a = sure-answer laws just c p s in shared-out just c p (a .0) (a .1) (a .2) d q e
 
   pub secret-kept : Secret-kept w
-  secret-kept c p s g = let a = sure-answer just c p s in derived-out just c p (a .0) (a .1) (a .2) g
+  secret-kept c p s g = let a = sure-answer laws just c p s in derived-out just c p (a .0) (a .1) (a .2) laws g
 
   pub called-secret-kept : Called-secret-kept w
   called-secret-kept f p s g =
-      let x = has-caller just f p s in
+      let x = has-caller laws just f p s in
       let ending = later (p .place) (x .ending) in
       record { caller = x .ended; ending = ending; reply = x .reply; out = secret-kept (x .ended) ending (session.by-called f p s (sym (x .reply))) (subst (λ t. Gets (heard (w .log)) t) (sym (x .secret)) g) }
 
@@ -107,7 +108,7 @@ module _ {preferences : List (List ℕ)} {w : World Term} (good : Good preferenc
   nobody-else n c p s none = record { underivable = λ g. none (only-given-away .kept n c p s g); holders = λ e r who h. go e r who (holder e who (c .secret) h) }
     where
       a : (a : Answered Term) × Past (w .log) (answered a) × (a .reply ≡ c .reply)
-      a = sure-answer just c p s
+      a = sure-answer laws just c p s
 
       both : Same-session (a .0) c
       both = joined just (a .0) (a .1) c p (a .2)
@@ -185,10 +186,10 @@ module _ {preferences : List (List ℕ)} {w : World Term} (good : Good preferenc
   }
 
 -- a refused word: of any world
-pub refusal-silent : (w : World Term) → Refusal-is-silent (rules symbols) w
+pub refusal-silent : (v : Variant) (w : World Term) → Refusal-is-silent (rules (primitives v)) w
 unfolding play acted settled
-refusal-silent w a s t n e f =
-    let v : World Term = play symbols (rules symbols) fresh w (world.Deliver a t) in
-    let g = λ (x : Side Term). settled (rules symbols) x (bind (symbols .read t) (handle (rules symbols) x (fresh (length (w .log))))) in
-    let same : v ≡ record { sides = put (w .sides) a (counted s n); log = w .log } = ap (λ o. acted w a o g) e ∙ ap (λ x. record { sides = put (w .sides) a (settled (rules symbols) s x .side); log = settled (rules symbols) s x .entries ++ w .log }) f in
+refusal-silent v w a s t n e f =
+    let u : World Term = play symbols (rules (primitives v)) fresh w (world.Deliver a t) in
+    let g = λ (x : Side Term). settled (rules (primitives v)) x (bind (symbols .read t) (handle (rules (primitives v)) x (fresh (length (w .log))))) in
+    let same : u ≡ record { sides = put (w .sides) a (counted s n); log = w .log } = ap (λ o. acted w a o g) e ∙ ap (λ x. record { sides = put (w .sides) a (settled (rules (primitives v)) s x .side); log = settled (rules (primitives v)) s x .entries ++ w .log }) f in
     record { log = ap (λ (x : World Term). x .log) same; heard-same = ap (λ (x : World Term). heard (x .log)) same; sides = ap (λ (x : World Term). x .sides) same }

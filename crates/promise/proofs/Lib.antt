@@ -2,6 +2,7 @@ pub mod Events
 pub mod Logs
 pub mod Released
 pub mod Shapes
+pub mod Variants
 pub mod Fair
 pub mod Partners
 pub mod Secrecy

@@ -23,7 +23,7 @@ use Rattle.protocol.specs.Event.{Finished, Theft, Told, Held, held, Event, call
 use Rattle.protocol.specs.Step.{Reaction, call, refuse}
 use Rattle.protocol.specs.World as world
 use Rattle.protocol.specs.World.{rules, World, Command, handle, settled, ordered, acted, entry-at, told-by, revealed, robbed, play}
-use Rattle.protocol.specs.Symbols.{symbols, fresh, word-term, new-keys, new-side, new-sides, start, by-key, key-seen}
+use Rattle.protocol.specs.Symbols.{symbols, fresh, word-term, new-keys, new-side, new-sides, start, by-key, key-seen, Variant, primitives}
 use Rattle.protocol.proofs.Steps.{none-some, some-same, no-yes, by-bind}
 use Rattle.protocol.proofs.Reading.{read-is}
 use Rattle.protocol.proofs.Tables.{put-nth, length-put}
@@ -31,6 +31,7 @@ use Rattle.protocol.proofs.Rows.{Rows, rows-of}
 use Rattle.protocol.proofs.Rows as rows
 use Rattle.promise.specs.Run.{Log, At, here, there, Past, Allowed, all-proper, Reach, begin, more}
 use Rattle.promise.specs.Session.{hello-of}
+use Rattle.promise.proofs.Variants.{Laws}
 use Rattle.promise.proofs.Events.{kind, other-kind}
 use Rattle.promise.proofs.Logs.{newest-at}
 use Rattle.promise.proofs.Released.{released, Theft-done, Open-call, Keys-taken, Secret-told, Justified, Fair}
@@ -41,15 +42,18 @@ use Rattle.promise.proofs.Hellos.{hello-fits}
 use Rattle.promise.proofs.Replies.{reply-fits}
 use Rattle.promise.proofs.Ends.{end-taken-fits}
 
-pub record Good (preferences : List (List ℕ)) (w : World Term) : Type 0 where
-  pub fair : Fair (w .log)
+pub record Good (v : Variant) (preferences : List (List ℕ)) (w : World Term) : Type 0 where
+  pub fair : Fair v (w .log)
   pub count : length (w .sides) ≡ length preferences
   pub sound : (n : ℕ) (s : Side Term) → nth (w .sides) n ≡ Some s → Sound preferences (w .log) n s
 
 -- a fair log with one more justified entry is fair
-fair-more : (e : Entry Term) (log : Log) → Fair log → Justified (e .what) (e .words) log → Fair (e ∷ log)
-fair-more e log fair j x below (here f g) = subst (λ l. Justified (x .what) (x .words) l) (sym g) (subst (λ y. Justified (y .what) (y .words) log) (sym f) j)
-fair-more e log fair j x below (there a) = fair x below a
+fair-more : {v : Variant} (e : Entry Term) (log : Log) → Fair v log → Justified v (e .what) (e .words) log → Fair v (e ∷ log)
+fair-more {v} e log fair j = record { each = go }
+  where
+    go : (x : Entry Term) (below : Log) → At x below (e ∷ log) → Justified v (x .what) (x .words) below
+    go x below (here f g) = subst (λ l. Justified v (x .what) (x .words) l) (sym g) (subst (λ y. Justified v (y .what) (y .words) log) (sym f) j)
+    go x below (there a) = fair .each x below a
 
 -- the tables of a side whose sessions this event doesn't end
 sound-more : {preferences : List (List ℕ)} {log : Log} {n : ℕ} {s : Side Term} (e : Entry Term) → ((f : Finished Term) → e .what ≡ caller-ended f → (c : Call Term) (t : ℕ) → Call-row log n c t → hello-of (f .reply) ≡ c .hello → ⊥) → ((f : Finished Term) → e .what ≡ called-ended f → (x : Answer Term) (t : ℕ) → Answer-row log n x t → f .reply ≡ x .reply → ⊥) → Sound preferences log n s → Sound preferences (e ∷ log) n s
@@ -64,7 +68,7 @@ sound-more {log = log} {n = n} {s = s} e p q sound = record {
 }
 
 -- another side's tables stay right
-sound-other : {preferences : List (List ℕ)} {log : Log} {n m : ℕ} {s : Side Term} → Fair log → (e : Entry Term) → Of-side (e .what) n → (m ≡ n → ⊥) → Sound preferences log m s → Sound preferences (e ∷ log) m s
+sound-other : {v : Variant} {preferences : List (List ℕ)} {log : Log} {n m : ℕ} {s : Side Term} → Fair v log → (e : Entry Term) → Of-side (e .what) n → (m ≡ n → ⊥) → Sound preferences log m s → Sound preferences (e ∷ log) m s
 sound-other {log = log} {n = n} {m = m} fair e of-side other sound =
     sound-more e
     (λ f g c t r h. other (sym (r .who) ∙ sym (the-call fair (r .call) (r .calling) .caller) ∙ ap (λ (x : _). x .caller) (r .hello ∙ sym h) ∙ of-side .caller f g))
@@ -80,51 +84,51 @@ sound-still : {preferences : List (List ℕ)} {log : Log} {n : ℕ} {s : Side Te
 sound-still e none sound = sound-more e (λ f g c t r h. none .no-caller f g) (λ f g x t r h. none .no-called f g) sound
 
 -- the world after a side acted in a way that fits
-acted-good : {preferences : List (List ℕ)} {w : World Term} → Good preferences w → (n : ℕ) (o : Option (Side Term)) → nth (w .sides) n ≡ o → (f : Side Term → Reaction Term) → ((s : Side Term) → o ≡ Some s → Fits preferences (w .log) n (f s)) → Good preferences (acted w n o f)
+acted-good : {v : Variant} {preferences : List (List ℕ)} {w : World Term} → Good v preferences w → (n : ℕ) (o : Option (Side Term)) → nth (w .sides) n ≡ o → (f : Side Term → Reaction Term) → ((s : Side Term) → o ≡ Some s → Fits v preferences (w .log) n (f s)) → Good v preferences (acted w n o f)
 unfolding acted
 acted-good good n None e f fits = good
-acted-good {preferences} {w} good n (Some s) e f fits = go (fits s refl)
+acted-good {v} {preferences} {w} good n (Some s) e f fits = go (fits s refl)
   where
-    go : Fits preferences (w .log) n (f s) → Good preferences (record { sides = put (w .sides) n (f s .side); log = f s .entries ++ w .log })
-    go (quiet g sound) = subst (λ es. Good preferences (record { sides = put (w .sides) n (f s .side); log = es ++ w .log })) (sym g) (record { fair = good .fair; count = length-put (w .sides) n (f s .side) ∙ good .count; sound = λ m z h. each m z (put-nth (w .sides) n m (f s .side) z h) })
+    go : Fits v preferences (w .log) n (f s) → Good v preferences (record { sides = put (w .sides) n (f s .side); log = f s .entries ++ w .log })
+    go (quiet g sound) = subst (λ es. Good v preferences (record { sides = put (w .sides) n (f s .side); log = es ++ w .log })) (sym g) (record { fair = good .fair; count = length-put (w .sides) n (f s .side) ∙ good .count; sound = λ m z h. each m z (put-nth (w .sides) n m (f s .side) z h) })
       where
         each : (m : ℕ) (z : Side Term) → ((m ≡ n) × (z ≡ f s .side)) ⊎ ((m ≡ n → ⊥) × (nth (w .sides) m ≡ Some z)) → Sound preferences (w .log) m z
         each m z (inl p) = subst (λ k. Sound preferences (w .log) k z) (sym (p .0)) (subst (λ y. Sound preferences (w .log) n y) (sym (p .1)) sound)
         each m z (inr p) = good .sound m z (p .1)
-    go (spoken x g j of-side sound) = subst (λ es. Good preferences (record { sides = put (w .sides) n (f s .side); log = es ++ w .log })) (sym g) (record { fair = fair-more x (w .log) (good .fair) j; count = length-put (w .sides) n (f s .side) ∙ good .count; sound = λ m z h. each m z (put-nth (w .sides) n m (f s .side) z h) })
+    go (spoken x g j of-side sound) = subst (λ es. Good v preferences (record { sides = put (w .sides) n (f s .side); log = es ++ w .log })) (sym g) (record { fair = fair-more x (w .log) (good .fair) j; count = length-put (w .sides) n (f s .side) ∙ good .count; sound = λ m z h. each m z (put-nth (w .sides) n m (f s .side) z h) })
       where
         each : (m : ℕ) (z : Side Term) → ((m ≡ n) × (z ≡ f s .side)) ⊎ ((m ≡ n → ⊥) × (nth (w .sides) m ≡ Some z)) → Sound preferences (x ∷ w .log) m z
         each m z (inl p) = subst (λ k. Sound preferences (x ∷ w .log) k z) (sym (p .0)) (subst (λ y. Sound preferences (x ∷ w .log) n y) (sym (p .1)) sound)
         each m z (inr p) = sound-other (good .fair) x of-side (p .0) (good .sound m z (p .1))
 
 -- a refused word, and a refused order
-refuse-fits : {preferences : List (List ℕ)} {log : Log} {n : ℕ} {s : Side Term} → Sound preferences log n s → (k : ℕ) → Fits preferences log n (refuse symbols s k)
+refuse-fits : {v : Variant} {preferences : List (List ℕ)} {log : Log} {n : ℕ} {s : Side Term} → Sound preferences log n s → (k : ℕ) → Fits v preferences log n (refuse (primitives v) s k)
 refuse-fits sound k = quiet refl (record { seat = record { me = sound .seat .me; own-key = sound .seat .own-key; keys = sound .seat .keys; proper-list = sound .seat .proper-list; wishes = sound .seat .wishes }; calls = sound .calls; answers = sound .answers; ended = sound .ended; few-calls = sound .few-calls; few-answers = sound .few-answers; few-ended = sound .few-ended })
 
-ordered-fits : {preferences : List (List ℕ)} {log : Log} {n : ℕ} {s : Side Term} → Sound preferences log n s → (g : Got (Reaction Term)) → ((r : Reaction Term) → g ≡ Yes r → Fits preferences log n r) → Fits preferences log n (ordered s g)
+ordered-fits : {v : Variant} {preferences : List (List ℕ)} {log : Log} {n : ℕ} {s : Side Term} → Sound preferences log n s → (g : Got (Reaction Term)) → ((r : Reaction Term) → g ≡ Yes r → Fits v preferences log n r) → Fits v preferences log n (ordered s g)
 unfolding ordered
 ordered-fits sound (No k) f = quiet refl sound
 ordered-fits sound (Yes r) f = f r refl
 
-settled-fits : {preferences : List (List ℕ)} {log : Log} {n : ℕ} {s : Side Term} → Sound preferences log n s → (g : Got (Reaction Term)) → ((r : Reaction Term) → g ≡ Yes r → Fits preferences log n r) → Fits preferences log n (settled (rules symbols) s g)
+settled-fits : {v : Variant} {preferences : List (List ℕ)} {log : Log} {n : ℕ} {s : Side Term} → Sound preferences log n s → (g : Got (Reaction Term)) → ((r : Reaction Term) → g ≡ Yes r → Fits v preferences log n r) → Fits v preferences log n (settled (rules (primitives v)) s g)
 unfolding settled
 settled-fits sound (No k) f = refuse-fits sound k
 settled-fits sound (Yes r) f = f r refl
 
 -- a word that can be derived is taken in a way that fits, or refused
-handled-fits : {preferences : List (List ℕ)} {log : Log} {n : ℕ} {s : Side Term} → Fair log → Sound preferences log n s → (w : Word Term) → Ok (released log) (word-term w) → (r : Reaction Term) → handle (rules symbols) s (fresh (length log)) w ≡ Yes r → Fits preferences log n r
+handled-fits : {v : Variant} {preferences : List (List ℕ)} {log : Log} {n : ℕ} {s : Side Term} → Fair v log → Sound preferences log n s → (w : Word Term) → Ok (released v log) (word-term w) → (r : Reaction Term) → handle (rules (primitives v)) s (fresh (length log)) w ≡ Yes r → Fits v preferences log n r
 unfolding handle
 handled-fits fair sound (a-hello h) o r e = hello-fits fair sound h o r e
 handled-fits fair sound (a-reply x) o r e = reply-fits fair sound x o r e
 handled-fits fair sound (an-end x) o r e = end-taken-fits fair sound x (ok-untag o) r e
 
-deliver-fits : {preferences : List (List ℕ)} {log : Log} {n : ℕ} {s : Side Term} → Fair log → Sound preferences log n s → (t : Term) → Gets (heard log) t → Fits preferences log n (settled (rules symbols) s (bind (symbols .read t) (handle (rules symbols) s (fresh (length log)))))
-deliver-fits {preferences} {log} {n} {s} fair sound t g = settled-fits sound (bind (symbols .read t) (handle (rules symbols) s (fresh (length log)))) taken-in
+deliver-fits : {v : Variant} → Laws v → {preferences : List (List ℕ)} {log : Log} {n : ℕ} {s : Side Term} → Fair v log → Sound preferences log n s → (t : Term) → Gets (heard log) t → Fits v preferences log n (settled (rules (primitives v)) s (bind (symbols .read t) (handle (rules (primitives v)) s (fresh (length log)))))
+deliver-fits {v} laws {preferences} {log} {n} {s} fair sound t g = settled-fits sound (bind (symbols .read t) (handle (rules (primitives v)) s (fresh (length log)))) taken-in
   where
-    taken-in : (r : Reaction Term) → bind (symbols .read t) (handle (rules symbols) s (fresh (length log))) ≡ Yes r → Fits preferences log n r
+    taken-in : (r : Reaction Term) → bind (symbols .read t) (handle (rules (primitives v)) s (fresh (length log))) ≡ Yes r → Fits v preferences log n r
     taken-in r e =
-        let b = by-bind (symbols .read t) (handle (rules symbols) s (fresh (length log))) r e in
-        handled-fits fair sound (b .0) (subst (λ x. Ok (released log) x) (read-is t (b .0) (b .1)) (derivable-public fair g)) r (b .2)
+        let b = by-bind (symbols .read t) (handle (rules (primitives v)) s (fresh (length log))) r e in
+        handled-fits fair sound (b .0) (subst (λ x. Ok (released v log) x) (read-is t (b .0) (b .1)) (derivable-public laws fair g)) r (b .2)
 
 -- an event of another kind ends nothing
 ends-nothing : (what : Event Term) → ((f : Finished Term) → eqb (kind what) (kind (caller-ended f)) ≡ false) → ((f : Finished Term) → eqb (kind what) (kind (called-ended f)) ≡ false) → No-end what
@@ -134,19 +138,19 @@ no-end-of : {what : Event Term} (n : ℕ) → No-end what → Of-side what n
 no-end-of n none = record { caller = λ f e. absurd (none .no-caller f e); called = λ f e. absurd (none .no-called f e) }
 
 -- the half of a side's own key
-own-half : {preferences : List (List ℕ)} {n : ℕ} {s : Side Term} → Seat preferences n s → symbols .public (s .own) ≡ Public (own (s .me) 0)
+own-half : (v : Variant) {preferences : List (List ℕ)} {n : ℕ} {s : Side Term} → Seat preferences n s → primitives v .public (s .own) ≡ Public (own (s .me) 0)
 unfolding by-key key-seen seen
-own-half seat = ap (λ x. symbols .public x) (seat .own-key) ∙ ap (λ x. Public (own x 0)) (sym (seat .me))
+own-half v seat = ap (λ x. primitives v .public x) (seat .own-key) ∙ ap (λ x. Public (own x 0)) (sym (seat .me))
 
 own-secret : {preferences : List (List ℕ)} {n : ℕ} {s : Side Term} → Seat preferences n s → s .own ≡ Secret (own (s .me) 0)
 own-secret seat = seat .own-key ∙ ap (λ x. Secret (own x 0)) (sym (seat .me))
 
-steal-fits : {preferences : List (List ℕ)} {log : Log} {n : ℕ} {s : Side Term} → Sound preferences log n s → Fits preferences log n (robbed symbols stolen (λ s. s .own ∷ []) s)
+steal-fits : {v : Variant} {preferences : List (List ℕ)} {log : Log} {n : ℕ} {s : Side Term} → Sound preferences log n s → Fits v preferences log n (robbed (primitives v) stolen (λ s. s .own ∷ []) s)
 unfolding Justified
-steal-fits {preferences} {log} {n} {s} sound =
-    let theft : Theft Term = record { who = s .me; key = symbols .public (s .own) } in
+steal-fits {v} {preferences} {log} {n} {s} sound =
+    let theft : Theft Term = record { who = s .me; key = primitives v .public (s .own) } in
     let e : Entry Term = record { what = stolen theft; words = s .own ∷ [] } in
-    spoken e refl (record { key = own-half (sound .seat); sent = ap (λ x. x ∷ []) (own-secret (sound .seat)) }) (no-end-of n (ends-nothing (stolen theft) (λ f. refl) (λ f. refl))) (sound-still e (ends-nothing (stolen theft) (λ f. refl) (λ f. refl)) sound)
+    spoken e refl (record { key = own-half v (sound .seat); sent = ap (λ x. x ∷ []) (own-secret (sound .seat)) }) (no-end-of n (ends-nothing (stolen theft) (λ f. refl) (λ f. refl))) (sound-still e (ends-nothing (stolen theft) (λ f. refl) (λ f. refl)) sound)
 
 -- each of the private keys is the identity key, or the key of an open call
 private-each : {preferences : List (List ℕ)} {log : Log} {n : ℕ} {s : Side Term} → Sound preferences log n s → (x : Term) → List·Memᴰ x (private-keys s) → (x ≡ Secret (own (s .me) 0)) ⊎ Open-call (s .me) x log
@@ -159,15 +163,15 @@ private-each {preferences} {log} {n} {s} sound x m = go (List·Memᴰ·cases-con
         let r = rows-of (y .0) (y .1) (sound .calls) .1 in
         inr (record { call = r .call; calling = r .calling; me = r .who ∙ sym (sound .seat .me); same = r .secret ∙ y .2; unended = λ f p h. r .unended f p (h ∙ r .hello) })
 
-take-fits : {preferences : List (List ℕ)} {log : Log} {n : ℕ} {s : Side Term} → Sound preferences log n s → Fits preferences log n (robbed symbols taken private-keys s)
+take-fits : {v : Variant} {preferences : List (List ℕ)} {log : Log} {n : ℕ} {s : Side Term} → Sound preferences log n s → Fits v preferences log n (robbed (primitives v) taken private-keys s)
 unfolding Justified
-take-fits {preferences} {log} {n} {s} sound =
-    let theft : Theft Term = record { who = s .me; key = symbols .public (s .own) } in
+take-fits {v} {preferences} {log} {n} {s} sound =
+    let theft : Theft Term = record { who = s .me; key = primitives v .public (s .own) } in
     let e : Entry Term = record { what = taken theft; words = private-keys s } in
-    spoken e refl (record { key = own-half (sound .seat); each = private-each sound }) (no-end-of n (ends-nothing (taken theft) (λ f. refl) (λ f. refl))) (sound-still e (ends-nothing (taken theft) (λ f. refl) (λ f. refl)) sound)
+    spoken e refl (record { key = own-half v (sound .seat); each = private-each sound }) (no-end-of n (ends-nothing (taken theft) (λ f. refl) (λ f. refl))) (sound-still e (ends-nothing (taken theft) (λ f. refl) (λ f. refl)) sound)
 
 -- one more justified entry that ends nothing, and no side acts
-noted-good : {preferences : List (List ℕ)} {w : World Term} → Good preferences w → (e : Entry Term) → Justified (e .what) (e .words) (w .log) → No-end (e .what) → Good preferences (record { sides = w .sides; log = e ∷ w .log })
+noted-good : {v : Variant} {preferences : List (List ℕ)} {w : World Term} → Good v preferences w → (e : Entry Term) → Justified v (e .what) (e .words) (w .log) → No-end (e .what) → Good v preferences (record { sides = w .sides; log = e ∷ w .log })
 noted-good {w = w} good e j none = record { fair = fair-more e (w .log) (good .fair) j; count = good .count; sound = λ n s h. sound-still e none (good .sound n s h) }
 
 -- the entry at a place has as many before it
@@ -180,19 +184,19 @@ entry-found (x ∷ log) n e f = go (eqb (length log) n) refl f (entry-found log 
     go true g f rest = (log, here (sym (some-same x e f)) refl, eqb-true (length log) n g)
     go false g f rest = let r = rest f in (r .0, there (r .1), r .2)
 
-reveal-good : {preferences : List (List ℕ)} {w : World Term} → Good preferences w → (n : ℕ) (o : Option (Entry Term)) → entry-at (w .log) n ≡ o → Good preferences (record { sides = w .sides; log = revealed n o ++ w .log })
+reveal-good : {v : Variant} {preferences : List (List ℕ)} {w : World Term} → Good v preferences w → (n : ℕ) (o : Option (Entry Term)) → entry-at (w .log) n ≡ o → Good v preferences (record { sides = w .sides; log = revealed n o ++ w .log })
 unfolding revealed told-by Justified
 reveal-good good n None e = record { fair = good .fair; count = good .count; sound = good .sound }
-reveal-good {preferences} {w} good n (Some x) e = go (held (x .what)) refl
+reveal-good {v} {preferences} {w} good n (Some x) e = go (held (x .what)) refl
   where
-    go : (k : Option (Held Term)) → held (x .what) ≡ k → Good preferences (record { sides = w .sides; log = told-by n k ++ w .log })
+    go : (k : Option (Held Term)) → held (x .what) ≡ k → Good v preferences (record { sides = w .sides; log = told-by n k ++ w .log })
     go None f = record { fair = good .fair; count = good .count; sound = good .sound }
     go (Some k) f =
         let r = entry-found (w .log) n x e in
         let t : Told Term = record { who = k .who; place = n; secret = k .secret } in
         noted-good good (record { what = told t; words = k .secret ∷ [] }) (record { session = x .what; having = record { entry = x; below = r .0; place = r .1; is = refl }; holds = f; place = sym (r .2); sent = refl }) (ends-nothing (told t) (λ f. refl) (λ f. refl))
 
-draw-good : {preferences : List (List ℕ)} {w : World Term} → Good preferences w → Good preferences (record { sides = w .sides; log = record { what = drew; words = Fresh (length (w .log)) 0 ∷ Secret (made (length (w .log)) 0) ∷ [] } ∷ w .log })
+draw-good : {v : Variant} {preferences : List (List ℕ)} {w : World Term} → Good v preferences w → Good v preferences (record { sides = w .sides; log = record { what = drew; words = Fresh (length (w .log)) 0 ∷ Secret (made (length (w .log)) 0) ∷ [] } ∷ w .log })
 unfolding Justified
 draw-good {w = w} good = noted-good good (record { what = drew; words = Fresh (length (w .log)) 0 ∷ Secret (made (length (w .log)) 0) ∷ [] }) refl (ends-nothing drew (λ f. refl) (λ f. refl))
 
@@ -211,8 +215,8 @@ unfolding new-sides
 length-sides keys [] m = refl
 length-sides keys (p ∷ ps) m = ap suc (length-sides keys ps (suc m))
 
-start-good : (preferences : List (List ℕ)) → all-proper preferences ≡ true → Good preferences (start preferences)
-start-good preferences a = record { fair = λ e below x. elim x [ ]; count = length-sides (new-keys 0 preferences) preferences 0; sound = each }
+start-good : (v : Variant) (preferences : List (List ℕ)) → all-proper preferences ≡ true → Good v preferences (start preferences)
+start-good v preferences a = record { fair = record { each = λ e below x. elim x [ ] }; count = length-sides (new-keys 0 preferences) preferences 0; sound = each }
   where
     side-sound : (n : ℕ) (p : List ℕ) → proper p ≡ true → nth preferences n ≡ Some p → Sound preferences [] n (new-side (new-keys 0 preferences) n p)
     side-sound n p q o = record { seat = record { me = refl; own-key = refl; keys = refl; proper-list = q; wishes = o }; calls = rows.none (omega arith); answers = rows.none (omega arith); ended = rows.none (omega arith); few-calls = omega arith; few-answers = omega arith; few-ended = omega arith }
@@ -224,16 +228,16 @@ start-good preferences a = record { fair = λ e below x. elim x [ ]; count = len
         subst (λ x. Sound preferences [] n x) (ap (λ x. new-side (new-keys 0 preferences) x (r .0)) h ∙ sym (r .1)) (side-sound n (r .0) (r .2) (r .3))
 
 -- a command that the network may give leads from a good world to a good one
-pub play-good : {preferences : List (List ℕ)} {w : World Term} → Good preferences w → (c : Command Term) → Allowed w c → Good preferences (play symbols (rules symbols) fresh w c)
+pub play-good : {v : Variant} → Laws v → {preferences : List (List ℕ)} {w : World Term} → Good v preferences w → (c : Command Term) → Allowed w c → Good v preferences (play symbols (rules (primitives v)) fresh w c)
 unfolding play Allowed
-play-good {w = w} good (world.Call a b) x = acted-good good a (nth (w .sides) a) refl _ (λ s e. ordered-fits (good .sound a s e) (call symbols s b (fresh (length (w .log)))) (λ r f. call-fits (good .fair) (good .sound a s e) b r f))
-play-good {w = w} good (world.Deliver a t) x = acted-good good a (nth (w .sides) a) refl _ (λ s e. deliver-fits (good .fair) (good .sound a s e) t x)
-play-good {w = w} good (world.Steal a) x = acted-good good a (nth (w .sides) a) refl _ (λ s e. steal-fits (good .sound a s e))
-play-good {w = w} good (world.Take a) x = acted-good good a (nth (w .sides) a) refl _ (λ s e. take-fits (good .sound a s e))
-play-good {w = w} good (world.Reveal n) x = reveal-good good n (entry-at (w .log) n) refl
-play-good {w = w} good world.Draw x = draw-good good
+play-good {v} laws {w = w} good (world.Call a b) x = acted-good good a (nth (w .sides) a) refl _ (λ s e. ordered-fits (good .sound a s e) (call (primitives v) s b (fresh (length (w .log)))) (λ r f. call-fits (good .fair) (good .sound a s e) b r f))
+play-good {v} laws {w = w} good (world.Deliver a t) x = acted-good good a (nth (w .sides) a) refl _ (λ s e. deliver-fits laws (good .fair) (good .sound a s e) t x)
+play-good {v} laws {w = w} good (world.Steal a) x = acted-good good a (nth (w .sides) a) refl _ (λ s e. steal-fits (good .sound a s e))
+play-good {v} laws {w = w} good (world.Take a) x = acted-good good a (nth (w .sides) a) refl _ (λ s e. take-fits (good .sound a s e))
+play-good {v} laws {w = w} good (world.Reveal n) x = reveal-good good n (entry-at (w .log) n) refl
+play-good {v} laws {w = w} good world.Draw x = draw-good good
 
 -- every world that can be reached is good
-pub reached-good : {preferences : List (List ℕ)} {w : World Term} → Reach (rules symbols) preferences w → Good preferences w
-reached-good {preferences} (begin a e) = subst (λ w. Good preferences w) e (start-good preferences a)
-reached-good {preferences} (more r c x e) = subst (λ w. Good preferences w) e (play-good (reached-good r) c x)
+pub reached-good : {v : Variant} → Laws v → {preferences : List (List ℕ)} {w : World Term} → Reach (rules (primitives v)) preferences w → Good v preferences w
+reached-good {v} laws {preferences} (begin a e) = subst (λ w. Good v preferences w) e (start-good v preferences a)
+reached-good {v} laws {preferences} (more r c x e) = subst (λ w. Good v preferences w) e (play-good laws (reached-good laws r) c x)

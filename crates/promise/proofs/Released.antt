@@ -13,7 +13,7 @@ use Rattle.symbolic.specs.Term.{Term, Number, Fresh, Secret, Public, One, Eleme
 use Rattle.symbolic.proofs.Public.{Released, Ok, Grows}
 use Rattle.protocol.specs.Words.{Reply}
 use Rattle.protocol.specs.Event.{Begun, Answered, Finished, Theft, Told, Held, held, Event, begun, answered, caller-ended, called-ended, stolen, taken, told, drew, spoke, Entry}
-use Rattle.protocol.specs.Symbols.{hello-term, body-term, reply-term, claim-term, nothing}
+use Rattle.protocol.specs.Symbols.{hello-term, reply-term, nothing, Variant}
 use Rattle.promise.specs.Run.{Log, At, Past}
 use Rattle.promise.specs.Session.{hello-of}
 use Rattle.promise.proofs.Logs.{later}
@@ -25,33 +25,34 @@ pub data Known (log : Log) (k : Key) : Type 0 where
   by-taking : (t : Theft Term) (p : Past log (taken t)) → List·Memᴰ (Secret k) (p .entry .words) → Known log k
   by-drawing : (p : Past log drew) → k ≡ made (length (p .below)) 0 → Known log k
 
--- the drawn values that are public: nonces, what was given away, what was sealed for known keys, what the network drew
+-- the drawn values that are public: nonces, what was given away, what was sealed for known keys or under the group's one, what the network drew
 pub data Given (log : Log) (t i : ℕ) : Type 0 where
   nonce-begun : (b : Begun Term) (p : Past log (begun b)) → t ≡ length (p .below) → i ≡ 0 → Given log t i
   nonce-answered : (a : Answered Term) (p : Past log (answered a)) → t ≡ length (p .below) → i ≡ 0 → Given log t i
   by-telling : (k : Told Term) → Past log (told k) → k .secret ≡ Fresh t i → Given log t i
   by-sealing : (a : Answered Term) (p : Past log (answered a)) → t ≡ length (p .below) → i ≡ 1 → (ks : List Key) → hello-of (a .reply) .half ≡ Element ks → ((k : Key) → List·Memᴰ k ks → Known log k) → Given log t i
+  by-one : (a : Answered Term) (p : Past log (answered a)) → t ≡ length (p .below) → i ≡ 1 → rise (made (length (p .below)) 2) (hello-of (a .reply) .half) ≡ One → Given log t i
   by-drawing : (p : Past log drew) → t ≡ length (p .below) → i ≡ 0 → Given log t i
 
 -- the signatures that sides have made: that of an end is public only with the secret that it is locked with
-pub data Signed (log : Log) (k : Key) (m u : Term) : Type 0 where
-  a-reply : (a : Answered Term) → Past log (answered a) → k ≡ own (a .me) 0 → m ≡ body-term (a .reply .body) → Signed log k m u
-  an-end : (f : Finished Term) → Past log (caller-ended f) → k ≡ own (f .me) 0 → m ≡ claim-term (reply-term (f .reply)) → u ≡ f .secret → Signed log k m u
+pub data Signed (v : Variant) (log : Log) (k : Key) (m u : Term) : Type 0 where
+  a-reply : (a : Answered Term) → Past log (answered a) → k ≡ own (a .me) 0 → m ≡ v .body (a .reply .body) → Signed v log k m u
+  an-end : (f : Finished Term) → Past log (caller-ended f) → k ≡ own (f .me) 0 → m ≡ v .claim (reply-term (f .reply)) → u ≡ f .secret → Signed v log k m u
 
 -- what a caller that ends sends: the reply with its signature, locked
-abbrev pub end-signature : ℕ → Reply Term → Term
-end-signature me r = Sign (own me 0) (claim-term (reply-term r))
+abbrev pub end-signature : Variant → ℕ → Reply Term → Term
+end-signature v me r = Sign (own me 0) (v .claim (reply-term r))
 
-abbrev pub lock-of : ℕ → Term → Reply Term → Term
-lock-of me secret r = Close (Mac secret (Number 1 derive-lock)) 0 nothing (Both (reply-term r) (end-signature me r))
+abbrev pub lock-of : Variant → ℕ → Term → Reply Term → Term
+lock-of v me secret r = Close (Mac secret (Number 1 derive-lock)) 0 nothing (Both (reply-term r) (end-signature v me r))
 
 -- what sides have closed: the session secret in a reply, and an end
-pub data Closed (log : Log) (k : Term) (n : ℕ) (h m : Term) : Type 0 where
-  a-seal : (a : Answered Term) → Past log (answered a) → Close k n h m ≡ a .reply .body .box → Closed log k n h m
-  a-lock : (f : Finished Term) → Past log (caller-ended f) → Close k n h m ≡ lock-of (f .me) (f .secret) (f .reply) → Closed log k n h m
+pub data Closed (v : Variant) (log : Log) (k : Term) (n : ℕ) (h m : Term) : Type 0 where
+  a-seal : (a : Answered Term) → Past log (answered a) → Close k n h m ≡ a .reply .body .box → Closed v log k n h m
+  a-lock : (f : Finished Term) → Past log (caller-ended f) → Close k n h m ≡ lock-of v (f .me) (f .secret) (f .reply) → Closed v log k n h m
 
-abbrev pub released : Log → Released
-released log = record { given = Given log; known = Known log; signed = Signed log; closed = Closed log }
+abbrev pub released : Variant → Log → Released
+released v log = record { given = Given log; known = Known log; signed = Signed v log; closed = Closed v log }
 
 known-grows : {log whole : Log} {e : Entry Term} → At e log whole → {k : Key} → Known log k → Known whole k
 known-grows a (everybody n e) = everybody n e
@@ -64,19 +65,20 @@ given-grows a (nonce-begun b p e f) = nonce-begun b (later a p) e f
 given-grows a (nonce-answered b p e f) = nonce-answered b (later a p) e f
 given-grows a (by-telling k p e) = by-telling k (later a p) e
 given-grows a (by-sealing b p e f ks g h) = by-sealing b (later a p) e f ks g (λ k m. known-grows a (h k m))
+given-grows a (by-one b p e f g) = by-one b (later a p) e f g
 given-grows a (by-drawing p e f) = by-drawing (later a p) e f
 
-signed-grows : {log whole : Log} {e : Entry Term} → At e log whole → {k : Key} {m u : Term} → Signed log k m u → Signed whole k m u
+signed-grows : {v : Variant} {log whole : Log} {e : Entry Term} → At e log whole → {k : Key} {m u : Term} → Signed v log k m u → Signed v whole k m u
 signed-grows a (a-reply b p e f) = a-reply b (later a p) e f
 signed-grows a (an-end b p e f g) = an-end b (later a p) e f g
 
-closed-grows : {log whole : Log} {e : Entry Term} → At e log whole → {k h m : Term} {n : ℕ} → Closed log k n h m → Closed whole k n h m
+closed-grows : {v : Variant} {log whole : Log} {e : Entry Term} → At e log whole → {k h m : Term} {n : ℕ} → Closed v log k n h m → Closed v whole k n h m
 closed-grows a (a-seal b p e) = a-seal b (later a p) e
 closed-grows a (a-lock b p e) = a-lock b (later a p) e
 
 -- what is released stays so
-pub released-grows : {log whole : Log} {e : Entry Term} → At e log whole → Grows (released log) (released whole)
-released-grows a = record { more-given = given-grows a; more-known = known-grows a; more-signed = signed-grows a; more-closed = closed-grows a }
+pub released-grows : (v : Variant) {log whole : Log} {e : Entry Term} → At e log whole → Grows (released v log) (released v whole)
+released-grows v a = record { more-given = given-grows a; more-known = known-grows a; more-signed = signed-grows a; more-closed = closed-grows a }
 
 -- the element that only who holds one of two secret keys can compute
 abbrev pub sealing-key : Key → Term → Term → Term → Term
@@ -95,35 +97,34 @@ pub record Call-made (b : Begun Term) (words : List Term) (log : Log) : Type 0 w
   pub sent : words ≡ hello-term (b .hello) ∷ []
 
 -- An answer: its draws are named by its time, and the hello that it answers was public.
-pub record Answer-made (a : Answered Term) (words : List Term) (log : Log) : Type 0 where
+pub record Answer-made (v : Variant) (a : Answered Term) (words : List Term) (log : Log) : Type 0 where
   pub me : hello-of (a .reply) .called ≡ a .me
   pub their : a .their ≡ Public (own (hello-of (a .reply) .caller) 0)
   pub nonce : a .reply .body .nonce ≡ Fresh (length log) 0
   pub secret : a .secret ≡ Fresh (length log) 1
   pub seal : a .reply .body .seal ≡ half-of (made (length log) 2)
   pub box : a .reply .body .box ≡ Close (sealing-key (made (length log) 2) (hello-of (a .reply) .half) (hello-of (a .reply) .half) (half-of (made (length log) 2))) 0 nothing (Fresh (length log) 1)
-  pub signature : a .reply .signature ≡ Sign (own (a .me) 0) (body-term (a .reply .body))
+  pub signature : a .reply .signature ≡ Sign (own (a .me) 0) (v .body (a .reply .body))
   pub best : choose (a .preferences) (hello-of (a .reply) .offer) ≡ Some (a .reply .body .choice)
-  pub apart : rise (made (length log) 2) (hello-of (a .reply) .half) ≡ One → ⊥
-  pub public : Ok (released log) (hello-term (hello-of (a .reply)))
+  pub public : Ok (released v log) (hello-term (hello-of (a .reply)))
   pub sent : words ≡ reply-term (a .reply) ∷ []
 
 -- A caller's end: it is of a call that was open, the reply was public, and the box opened with the call's key.
-pub record Caller-end (c : Finished Term) (words : List Term) (log : Log) : Type 0 where
+pub record Caller-end (v : Variant) (c : Finished Term) (words : List Term) (log : Log) : Type 0 where
   pub call : Begun Term
   pub calling : Past log (begun call)
   pub me : call .me ≡ c .me
   pub hello : call .hello ≡ hello-of (c .reply)
   pub their : c .their ≡ Public (own (hello-of (c .reply) .called) 0)
-  pub signature : c .reply .signature ≡ Sign (own (hello-of (c .reply) .called) 0) (body-term (c .reply .body))
+  pub signature : c .reply .signature ≡ Sign (own (hello-of (c .reply) .called) 0) (v .body (c .reply .body))
   pub offered : holds (hello-of (c .reply) .offer) (c .reply .body .choice) ≡ true
   pub box : c .reply .body .box ≡ Close (sealing-key (made (length (calling .below)) 1) (c .reply .body .seal) (half-of (made (length (calling .below)) 1)) (c .reply .body .seal)) 0 nothing (c .secret)
   pub once : (f : Finished Term) → Past log (caller-ended f) → hello-of (f .reply) ≡ hello-of (c .reply) → ⊥
-  pub public : Ok (released log) (reply-term (c .reply))
-  pub sent : words ≡ Tag kind-end (lock-of (c .me) (c .secret) (c .reply)) ∷ []
+  pub public : Ok (released v log) (reply-term (c .reply))
+  pub sent : words ≡ Tag kind-end (lock-of v (c .me) (c .secret) (c .reply)) ∷ []
 
 -- A called side's end: it is of a session that it had answered, and the lock that it opened was public.
-pub record Called-end (f : Finished Term) (words : List Term) (log : Log) : Type 0 where
+pub record Called-end (v : Variant) (f : Finished Term) (words : List Term) (log : Log) : Type 0 where
   pub answer : Answered Term
   pub answering : Past log (answered answer)
   pub me : answer .me ≡ f .me
@@ -131,7 +132,7 @@ pub record Called-end (f : Finished Term) (words : List Term) (log : Log) : Type
   pub secret : answer .secret ≡ f .secret
   pub their : f .their ≡ Public (own (hello-of (f .reply) .caller) 0)
   pub once : (g : Finished Term) → Past log (called-ended g) → g .reply ≡ f .reply → ⊥
-  pub public : Ok (released log) (lock-of (hello-of (f .reply) .caller) (f .secret) (f .reply))
+  pub public : Ok (released v log) (lock-of v (hello-of (f .reply) .caller) (f .secret) (f .reply))
   pub sent : words ≡ []
 
 pub record Theft-done (t : Theft Term) (words : List Term) : Type 0 where
@@ -159,17 +160,17 @@ pub record Secret-told (t : Told Term) (words : List Term) (log : Log) : Type 0 
   pub sent : words ≡ t .secret ∷ []
 
 -- what justifies an entry, by what had happened before it
-unfoldable pub Justified : Event Term → List Term → Log → Type 0
-Justified (begun b) words log = Call-made b words log
-Justified (answered a) words log = Answer-made a words log
-Justified (caller-ended c) words log = Caller-end c words log
-Justified (called-ended f) words log = Called-end f words log
-Justified (stolen t) words log = Theft-done t words
-Justified (taken t) words log = Keys-taken t words log
-Justified (told t) words log = Secret-told t words log
-Justified drew words log = words ≡ Fresh (length log) 0 ∷ Secret (made (length log) 0) ∷ []
-Justified (spoke n) words log = ⊥
+unfoldable pub Justified : Variant → Event Term → List Term → Log → Type 0
+Justified v (begun b) words log = Call-made b words log
+Justified v (answered a) words log = Answer-made v a words log
+Justified v (caller-ended c) words log = Caller-end v c words log
+Justified v (called-ended f) words log = Called-end v f words log
+Justified v (stolen t) words log = Theft-done t words
+Justified v (taken t) words log = Keys-taken t words log
+Justified v (told t) words log = Secret-told t words log
+Justified v drew words log = words ≡ Fresh (length log) 0 ∷ Secret (made (length log) 0) ∷ []
+Justified v (spoke n) words log = ⊥
 
 -- every entry of a log is justified by what had happened before it
-abbrev pub Fair : Log → Type 0
-Fair log = (e : Entry Term) (below : Log) → At e below log → Justified (e .what) (e .words) below
+pub record Fair (v : Variant) (log : Log) : Type 0 where
+  pub each : (e : Entry Term) (below : Log) → At e below log → Justified v (e .what) (e .words) below

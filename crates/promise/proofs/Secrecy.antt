@@ -7,11 +7,13 @@ use Prim.Native.Nat.{ℕ, zero, suc, _≤_, _<_}
 use native.Mathlib.Omega.{arith}
 use lib.ListN.{length}
 use Rattle.symbolic.specs.Key.{Key, key, own, made, plain}
-use Rattle.symbolic.specs.Term.{Term, Fresh, Secret, Element}
+use Rattle.symbolic.specs.Term.{Term, Fresh, Secret, One, Element, rise}
 use Rattle.symbolic.specs.Derivable.{Gets}
 use Rattle.symbolic.proofs.Public.{Ok, ok-given}
 use Rattle.protocol.specs.Words.{Hello, Reply}
 use Rattle.protocol.specs.Event.{Begun, Answered, Finished, Theft, Told, Event, begun, answered, caller-ended, called-ended, taken, told, Entry, heard}
+use Rattle.protocol.specs.Symbols.{Variant}
+use Rattle.promise.proofs.Variants.{Laws}
 use Rattle.promise.specs.Run.{Log, At, Past}
 use Rattle.promise.specs.Session as session
 use Rattle.promise.specs.Session.{hello-of, Sure, Given-away, Taken-while-open, Out}
@@ -24,21 +26,26 @@ use Rattle.promise.proofs.Fair.{fair-below, the-call, the-answer, the-caller-e
 use Rattle.promise.proofs.Shapes.{key-kind, key-index, secret-key, fresh-time, half-key, half-keys, made-time, sealed-half}
 use Rattle.promise.proofs.Partners.{one-place, one-below, one-call, one-answer, call-time, caller-once, has-answerer}
 
+-- a half that is raised isn't the group's one
+raised-not-one : (y x : Key) → rise y (half-of x) ≡ One → ⊥
+unfolding rise
+raised-not-one y x e = let z : _≡_ {A = ℕ} 0 1 = cc in omega arith
+
 -- what happened in one log happened in the other, at the same place
 abbrev Part : Log → Log → Type 0
 Part part log = (w : Event Term) (x : Past part w) → (y : Past log w) × (y .below ≡ x .below)
 
 -- the value drawn at a time was public already in an earlier log
-record Earlier (log part : Log) (when : ℕ) : Type 0 where
+record Earlier (v : Variant) (log part : Log) (when : ℕ) : Type 0 where
   less : Log
   shorter : length less < length part
-  fairly : Fair less
+  fairly : Fair v less
   up : Part less log
   given : Given less when 1
 
 -- a session: a caller that ended, and the answer with the same reply
-module _ {log : Log} (just : Fair log) (c : Finished Term) (p : Past log (caller-ended c)) (a : Answered Term) (q : Past log (answered a)) (one : a .reply ≡ c .reply) where
-  abbrev the-end : Caller-end c (p .entry .words) (p .below)
+module _ {v : Variant} {log : Log} (just : Fair v log) (c : Finished Term) (p : Past log (caller-ended c)) (a : Answered Term) (q : Past log (answered a)) (one : a .reply ≡ c .reply) where
+  abbrev the-end : Caller-end v c (p .entry .words) (p .below)
   the-end = the-caller-end just c p
 
   -- when the session was begun, and when it was answered
@@ -76,7 +83,7 @@ module _ {log : Log} (just : Fair log) (c : Finished Term) (p : Past log (caller
       caller-once just c d p r (sym (the-end .hello) ∙ ap (λ (b : Begun Term). b .hello) (sym call) ∙ j .hello)
 
   -- the key of the call is known only if it was taken while the call was open
-  key-taken : {part : Log} → Fair part → Part part log → Known part (made began 1) → Taken-while-open c (p .below)
+  key-taken : {part : Log} → Fair v part → Part part log → Known part (made began 1) → Taken-while-open c (p .below)
   key-taken fairly up (released.everybody n e) = let h = key-kind 1 began 1 2 n 0 e in absurd (omega arith)
   key-taken fairly up (released.by-theft t r e) = let h = key-kind 1 began 1 0 (t .who) 0 e in absurd (omega arith)
   key-taken fairly up (released.by-drawing r e) = let h = key-index 1 began 1 1 (length (r .below)) 0 e in absurd (omega arith)
@@ -105,7 +112,7 @@ module _ {log : Log} (just : Fair log) (c : Finished Term) (p : Past log (caller
       go (inr o) = before (subst (λ l. Open-call (t .who) (Secret (made began 1)) l) (sym (up (taken t) r .1)) o) (at-order (was .place) (p .place))
 
   -- a secret given away by its session's side was given away by one of the two ends, or was out before
-  told-by-end : {part : Log} → Fair part → Part part log → (k : Told Term) → Past part (told k) → k .secret ≡ Fresh when 1 → Out log c p ⊎ Earlier log part when
+  told-by-end : {part : Log} → Fair v part → Part part log → (k : Told Term) → Past part (told k) → k .secret ≡ Fresh when 1 → Out log c p ⊎ Earlier v log part when
   told-by-end {part} fairly up k r e = go (j .session) (j .having) (j .place) (holder (j .session) (k .who) (k .secret) (j .holds))
     where
       j : Secret-told k (r .entry .words) (r .below)
@@ -117,11 +124,11 @@ module _ {log : Log} (just : Fair log) (c : Finished Term) (p : Past log (caller
       lift : (w : Event Term) (x : Past (r .below) w) → (y : Past log w) × (y .below ≡ x .below)
       lift w x = up w (later (r .place) x)
 
-      from-caller : (d : Finished Term) (x : Past (r .below) (caller-ended d)) → d .me ≡ k .who → d .secret ≡ k .secret → k .place ≡ length (x .below) → Ok (released.released (x .below)) (d .secret) ⊎ ((b : Answered Term) × (y : Past (x .below) (answered b)) × (d .reply .body .box ≡ b .reply .body .box)) → Out log c p ⊎ Earlier log part when
+      from-caller : (d : Finished Term) (x : Past (r .below) (caller-ended d)) → d .me ≡ k .who → d .secret ≡ k .secret → k .place ≡ length (x .below) → Ok (released.released v (x .below)) (d .secret) ⊎ ((b : Answered Term) × (y : Past (x .below) (answered b)) × (d .reply .body .box ≡ b .reply .body .box)) → Out log c p ⊎ Earlier v log part when
       from-caller d x f g n (inl o) =
           let h = at-shorter (x .place) in
           let i = at-shorter (r .place) in
-          inr (record { less = x .below; shorter = omega arith; fairly = fair-below (x .place) (fair-below (r .place) fairly); up = λ w y. lift w (later (x .place) y); given = ok-given (subst (λ t. Ok (released.released (x .below)) t) (g ∙ e) o) })
+          inr (record { less = x .below; shorter = omega arith; fairly = fair-below (x .place) (fair-below (r .place) fairly); up = λ w y. lift w (later (x .place) y); given = ok-given (subst (λ t. Ok (released.released v (x .below)) t) (g ∙ e) o) })
       from-caller d x f g n (inr b) =
           let y = lift (caller-ended d) x in
           let z = lift (answered (b .0)) (later (x .place) (b .1)) in
@@ -132,7 +139,7 @@ module _ {log : Log} (just : Fair log) (c : Finished Term) (p : Past log (caller
           let who = caller-same c d (one-place p (y .0) (ap length place)) in
           inl (session.given-away (session.by-caller k telling (sym f ∙ ap (λ (v : Finished Term). v .me) (sym who)) (n ∙ ap length (sym (y .1)) ∙ ap length (sym place))))
 
-      go : (s : Event Term) (x : Past (r .below) s) → k .place ≡ length (x .below) → Holder s (k .who) (k .secret) → Out log c p ⊎ Earlier log part when
+      go : (s : Event Term) (x : Past (r .below) s) → k .place ≡ length (x .below) → Holder s (k .who) (k .secret) → Out log c p ⊎ Earlier v log part when
       go s x n (fair.an-answerer b f g h) =
           let y = lift (answered b) (past-is x f) in
           let t = this-answer b (y .0) (h ∙ e) in
@@ -148,39 +155,44 @@ module _ {log : Log} (just : Fair log) (c : Finished Term) (p : Past log (caller
           inl (session.given-away (session.by-called k telling d (y .0) (sym (i .reply) ∙ ap (λ (v : Answered Term). v .reply) (sym same) ∙ one) (sym g) (n ∙ ap length (sym (y .1)))))
 
   -- if the secret was public, it came out by one of the two ends or by the call's key, or was public before
-  public-since : (part : Log) → Fair part → Part part log → Given part when 1 → Out log c p ⊎ Earlier log part when
+  public-since : (part : Log) → Fair v part → Part part log → Given part when 1 → Out log c p ⊎ Earlier v log part when
   public-since part fairly up (released.nonce-begun b r e f) = absurd (omega arith)
   public-since part fairly up (released.nonce-answered b r e f) = absurd (omega arith)
   public-since part fairly up (released.by-drawing r e f) = absurd (omega arith)
   public-since part fairly up (released.by-telling k r e) = told-by-end fairly up k r e
+  public-since part fairly up (released.by-one b r e f g) =
+      let x = up (answered b) r in
+      let same = one-answer a b q (x .0) (e ∙ ap length (sym (x .1))) in
+      let half : hello-of (b .reply) .half ≡ half-of (made began 1) = ap (λ (v : Answered Term). hello-of (v .reply) .half) (sym same) ∙ caller-half in
+      absurd (raised-not-one (made (length (r .below)) 2) (made began 1) (ap (rise (made (length (r .below)) 2)) (sym half) ∙ g))
   public-since part fairly up (released.by-sealing b r e f ks g h) =
       let x = up (answered b) r in
       let same = one-answer a b q (x .0) (e ∙ ap length (sym (x .1))) in
       let half : half-of (made began 1) ≡ Element ks = sym caller-half ∙ ap (λ (v : Answered Term). hello-of (v .reply) .half) same ∙ g in
       inl (session.taken-open (key-taken fairly up (h (made began 1) (subst (λ l. List·Memᴰ (made began 1) l) (sym (half-keys (made began 1) ks half)) (List·Memᴰ·head refl)))))
 
-  public-out : (n : ℕ) (part : Log) → length part ≤ n → Fair part → Part part log → Given part when 1 → Out log c p
+  public-out : (n : ℕ) (part : Log) → length part ≤ n → Fair v part → Part part log → Given part when 1 → Out log c p
   public-out zero part m fairly up g = go (public-since part fairly up g)
     where
-      go : Out log c p ⊎ Earlier log part when → Out log c p
+      go : Out log c p ⊎ Earlier v log part when → Out log c p
       go (inl o) = o
       go (inr x) = let h = x .shorter in absurd (omega arith)
   public-out (suc n) part m fairly up g = go (public-since part fairly up g) (public-out n)
     where
-      go : Out log c p ⊎ Earlier log part when → ((l : Log) → length l ≤ n → Fair l → Part l log → Given l when 1 → Out log c p) → Out log c p
+      go : Out log c p ⊎ Earlier v log part when → ((l : Log) → length l ≤ n → Fair v l → Part l log → Given l when 1 → Out log c p) → Out log c p
       go (inl o) rest = o
       go (inr x) rest = let h = x .shorter in rest (x .less) (omega arith) (x .fairly) (x .up) (x .given)
 
   -- a secret that can be derived came out so
-  pub derived-out : Gets (heard log) (c .secret) → Out log c p
-  derived-out g = public-out (length log) log (omega arith) just (λ w x. (x, refl)) (ok-given (subst (λ t. Ok (released.released log) t) secret-is (derivable-public just g)))
+  pub derived-out : Laws v → Gets (heard log) (c .secret) → Out log c p
+  derived-out laws g = public-out (length log) log (omega arith) just (λ w x. (x, refl)) (ok-given (subst (λ t. Ok (released.released v log) t) secret-is (derivable-public laws just g)))
 
   -- and so did one that another caller's session shares
   pub shared-out : (d : Finished Term) (r : Past log (caller-ended d)) → d .secret ≡ c .secret → (p .below ≡ r .below) ⊎ Out log c p
   shared-out d r e = go (secret-source just d r)
     where
-      go : Ok (released.released (r .below)) (d .secret) ⊎ ((b : Answered Term) × (y : Past (r .below) (answered b)) × (d .reply .body .box ≡ b .reply .body .box)) → (p .below ≡ r .below) ⊎ Out log c p
-      go (inl o) = inr (public-out (length (r .below)) (r .below) (omega arith) (fair-below (r .place) just) (λ w x. (later (r .place) x, refl)) (ok-given (subst (λ t. Ok (released.released (r .below)) t) (e ∙ secret-is) o)))
+      go : Ok (released.released v (r .below)) (d .secret) ⊎ ((b : Answered Term) × (y : Past (r .below) (answered b)) × (d .reply .body .box ≡ b .reply .body .box)) → (p .below ≡ r .below) ⊎ Out log c p
+      go (inl o) = inr (public-out (length (r .below)) (r .below) (omega arith) (fair-below (r .place) just) (λ w x. (later (r .place) x, refl)) (ok-given (subst (λ t. Ok (released.released v (r .below)) t) (e ∙ secret-is) o)))
       go (inr b) =
           let z = later (r .place) (b .1) in
           let t = this-answer (b .0) z (sym (same-box just d r (b .0) z (b .2)) ∙ e ∙ secret-is) in
@@ -188,6 +200,6 @@ module _ {log : Log} (just : Fair log) (c : Finished Term) (p : Past log (caller
           inl (this-caller d r (b .2 ∙ ap (λ (v : Answered Term). v .reply .body .box) (sym same)))
 
 -- a session that one of its ends ended surely was answered by the called side, with the same reply
-pub sure-answer : {log : Log} → Fair log → (c : Finished Term) (p : Past log (caller-ended c)) → Sure log c p → (a : Answered Term) × Past log (answered a) × (a .reply ≡ c .reply)
-sure-answer just c p (session.by-caller s) = let x = has-answerer just c p s in (x .answer, later (p .place) (x .answering), x .same .reply)
-sure-answer just c p (session.by-called f q s e) = let x = the-called-end just f q in (x .answer, later (q .place) (x .answering), x .reply ∙ e)
+pub sure-answer : {v : Variant} {log : Log} → Laws v → Fair v log → (c : Finished Term) (p : Past log (caller-ended c)) → Sure log c p → (a : Answered Term) × Past log (answered a) × (a .reply ≡ c .reply)
+sure-answer laws just c p (session.by-caller s) = let x = has-answerer laws just c p s in (x .answer, later (p .place) (x .answering), x .same .reply)
+sure-answer laws just c p (session.by-called f q s e) = let x = the-called-end just f q in (x .answer, later (q .place) (x .answering), x .reply ∙ e)

@@ -7,7 +7,7 @@ use Rattle.words.specs.Registry.{derive-lock}
 use Rattle.symbolic.specs.Key.{Key, key, own, made}
 use Rattle.symbolic.specs.Term.{Term, Number, Fresh, Secret, Element, Mac, Close, Both, rise}
 use Rattle.protocol.specs.Words.{Reply}
-use Rattle.protocol.specs.Symbols.{reply-term, nothing}
+use Rattle.protocol.specs.Symbols.{reply-term, nothing, Variant}
 use Rattle.protocol.proofs.Apart.{reply-same}
 use Rattle.promise.proofs.Released.{lock-of, end-signature, sealing-key, half-of}
 
@@ -33,17 +33,17 @@ pub sealed-half : (x y : Key) (e f a b c d s t : Term) → Close (sealing-key x 
 sealed-half x y e f a b c d s t p = cc
 
 -- a lock is no seal
-pub lock-seal : (me : ℕ) (s : Term) (r : Reply Term) (x : Key) (e a b t : Term) → lock-of me s r ≡ Close (sealing-key x e a b) 0 nothing t → ⊥
-lock-seal me s r x e a b t p = let z : Number 1 derive-lock ≡ Both a b = cc in apart z
+pub lock-seal : (v : Variant) (me : ℕ) (s : Term) (r : Reply Term) (x : Key) (e a b t : Term) → lock-of v me s r ≡ Close (sealing-key x e a b) 0 nothing t → ⊥
+lock-seal v me s r x e a b t p = let z : Number 1 derive-lock ≡ Both a b = cc in apart z
   where
     apart : Number 1 derive-lock ≡ Both a b → ⊥
     apart q = let z : _≡_ {A = ℕ} 0 1 = cc in omega arith
 
-pub lock-reply : (me you : ℕ) (s t : Term) (r q : Reply Term) → lock-of me s r ≡ lock-of you t q → r ≡ q
-lock-reply me you s t r q e = let z : reply-term r ≡ reply-term q = cc in reply-same r q z
+pub lock-reply : (v : Variant) (me you : ℕ) (s t : Term) (r q : Reply Term) → lock-of v me s r ≡ lock-of v you t q → r ≡ q
+lock-reply v me you s t r q e = let z : reply-term r ≡ reply-term q = cc in reply-same r q z
 
-pub lock-side : (me you : ℕ) (s t : Term) (r q : Reply Term) → lock-of me s r ≡ lock-of you t q → me ≡ you
-lock-side me you s t r q e = let z : own me 0 ≡ own you 0 = cc in own-side me you z
+pub lock-side : (v : Variant) (me you : ℕ) (s t : Term) (r q : Reply Term) → lock-of v me s r ≡ lock-of v you t q → me ≡ you
+lock-side v me you s t r q e = let z : own me 0 ≡ own you 0 = cc in own-side me you z
 
 -- keys that are told apart by their kind or their index
 pub key-kind : (a b c x y z : ℕ) → key a b c ≡ key x y z → a ≡ x

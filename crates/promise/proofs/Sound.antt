@@ -15,14 +15,13 @@ use Rattle.protocol.specs.Words.{Hello, Reply}
 use Rattle.protocol.specs.Side.{Call, Answer, Session, Side, most-calls, most-answers, most-ended}
 use Rattle.protocol.specs.Event.{Begun, Answered, Finished, Event, begun, answered, caller-ended, called-ended, Entry}
 use Rattle.protocol.specs.Step.{Reaction}
-use Rattle.protocol.specs.Symbols.{new-keys}
+use Rattle.protocol.specs.Symbols.{new-keys, Variant}
 use Rattle.protocol.proofs.Steps.{none-some, some-same}
 use Rattle.protocol.proofs.Rows.{Rows, rows-high, rows-map, rows-append, rows-newest}
 use Rattle.promise.specs.Run.{Log, At, Past}
 use Rattle.promise.specs.Session.{hello-of, ended-by, session-of}
 use Rattle.promise.proofs.Logs.{next, now-or-before}
-use Rattle.promise.proofs.Released.{Justified, Fair}
-use Rattle.promise.proofs.Fair.{the-call, the-answer}
+use Rattle.promise.proofs.Released.{Justified}
 
 -- a row of the open calls: it has begun, and isn't ended
 pub record Call-row (log : Log) (me : ℕ) (c : Call Term) (t : ℕ) : Type 0 where
@@ -130,6 +129,6 @@ pub record Of-side (what : Event Term) (n : ℕ) : Type 0 where
   pub called : (f : Finished Term) → what ≡ called-ended f → hello-of (f .reply) .called ≡ n
 
 -- what a side did fits the log: it did nothing that is told, or one thing that is justified
-pub data Fits (preferences : List (List ℕ)) (log : Log) (n : ℕ) (r : Reaction Term) : Type 0 where
-  quiet : r .entries ≡ [] → Sound preferences log n (r .side) → Fits preferences log n r
-  spoken : (e : Entry Term) → r .entries ≡ e ∷ [] → Justified (e .what) (e .words) log → Of-side (e .what) n → Sound preferences (e ∷ log) n (r .side) → Fits preferences log n r
+pub data Fits (v : Variant) (preferences : List (List ℕ)) (log : Log) (n : ℕ) (r : Reaction Term) : Type 0 where
+  quiet : r .entries ≡ [] → Sound preferences log n (r .side) → Fits v preferences log n r
+  spoken : (e : Entry Term) → r .entries ≡ e ∷ [] → Justified v (e .what) (e .words) log → Of-side (e .what) n → Sound preferences (e ∷ log) n (r .side) → Fits v preferences log n r

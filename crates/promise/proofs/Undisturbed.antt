@@ -22,12 +22,13 @@ use Rattle.protocol.specs.Event.{Begun, Answered, Finished, Event, begun, answe
 use Rattle.protocol.specs.Step.{Reaction, new-hello, new-body, new-reply, begin-call, give-answer, end-call, end-answer}
 use Rattle.protocol.specs.World as world
 use Rattle.protocol.specs.World.{rules, World, play}
-use Rattle.protocol.specs.Symbols.{symbols, fresh, hello-term, body-term, reply-term, claim-term, nothing, by-key, key-seen}
+use Rattle.protocol.specs.Symbols.{symbols, fresh, hello-term, reply-term, nothing, by-key, key-seen, Variant, primitives}
 use Rattle.protocol.proofs.Steps.{some-same, none-some}
 use Rattle.protocol.proofs.Tables.{put-nth, nth-put, put-there, kept-new}
 use Rattle.promise.specs.Run.{Log, At, here, there, Past, Allowed, robs, never, safe}
 use Rattle.promise.specs.Session.{hello-of}
 use Rattle.promise.specs.Promise.{identity, last-heard, passed-on, undisturbed, Both-ended, Undisturbed-ends}
+use Rattle.promise.proofs.Variants.{Laws}
 use Rattle.promise.proofs.Logs.{next, now-past}
 use Rattle.promise.proofs.Released.{half-of, lock-of, end-signature}
 use Rattle.promise.proofs.Calls.{half-is}
@@ -51,26 +52,26 @@ still-safe : (k : Term) (e : Entry Term) (log : Log) → robs k (e .what) ≡ fa
 unfolding never
 still-safe k e log n s = and-from (not (robs k (e .what))) (safe k log) (ap not n) s
 
-module _ {preferences : List (List ℕ)} {w : World Term} (good : Good preferences w) (a b choice : ℕ) (s t : Side Term) (at-a : nth (w .sides) a ≡ Some s) (at-b : nth (w .sides) b ≡ Some t) (chosen : choose (t .preferences) (s .preferences) ≡ Some choice) where
+module _ {v : Variant} (laws : Laws v) {preferences : List (List ℕ)} {w : World Term} (good : Good v preferences w) (a b choice : ℕ) (s t : Side Term) (at-a : nth (w .sides) a ≡ Some s) (at-b : nth (w .sides) b ≡ Some t) (chosen : choose (t .preferences) (s .preferences) ≡ Some choice) where
   abbrev seat-a : Sound preferences (w .log) a s
   seat-a = good .sound a s at-a
 
   -- the call
   abbrev hello : Hello Term
-  hello = new-hello symbols s b (fresh (length (w .log)))
+  hello = new-hello (primitives v) s b (fresh (length (w .log)))
 
   abbrev calling : Reaction Term
-  calling = begin-call symbols s b (fresh (length (w .log))) (identity b)
+  calling = begin-call (primitives v) s b (fresh (length (w .log))) (identity b)
 
   abbrev begun-world : World Term
   begun-world = after w a calling
 
-  first-step : play symbols (rules symbols) fresh w (world.Call a b) ≡ begun-world
+  first-step : play symbols (rules (primitives v)) fresh w (world.Call a b) ≡ begun-world
   first-step = call-made good a b s (t .preferences) at-a (good .sound b t at-b .seat .wishes)
 
-  begun-good : Good preferences begun-world
+  begun-good : Good v preferences begun-world
   unfolding Allowed
-  begun-good = subst (λ v. Good preferences v) first-step (play-good good (world.Call a b) tt)
+  begun-good = subst (λ u. Good v preferences u) first-step (play-good laws good (world.Call a b) tt)
 
   abbrev call-row : Call Term
   call-row = record { hello = hello; secret = Secret (made (length (w .log)) 1); their = identity b }
@@ -90,21 +91,21 @@ module _ {preferences : List (List ℕ)} {w : World Term} (good : Good preferenc
 
   -- the answer
   abbrev answering : Reaction Term
-  answering = give-answer symbols callee hello (fresh (length (begun-world .log))) (identity (s .me)) choice
+  answering = give-answer (primitives v) callee hello (fresh (length (begun-world .log))) (identity (s .me)) choice
 
   abbrev answered-world : World Term
   answered-world = after begun-world b answering
 
-  second-step : passed-on (rules symbols) begun-world b ≡ answered-world
+  second-step : passed-on (rules (primitives v)) begun-world b ≡ answered-world
   unfolding heard last-heard
-  second-step = hello-answered begun-good b callee hello (s .preferences) choice (made (length (w .log)) 1) (called-side .1) refl (ap (nth preferences) (seat-a .seat .me) ∙ seat-a .seat .wishes) (seat-a .seat .proper-list) (ap (λ l. choose l (s .preferences)) callee-wishes ∙ chosen) (half-is (made (length (w .log)) 1))
+  second-step = hello-answered laws begun-good b callee hello (s .preferences) choice (made (length (w .log)) 1) (called-side .1) refl (ap (nth preferences) (seat-a .seat .me) ∙ seat-a .seat .wishes) (seat-a .seat .proper-list) (ap (λ l. choose l (s .preferences)) callee-wishes ∙ chosen) (half-is v (made (length (w .log)) 1))
 
-  answered-good : Good preferences answered-world
+  answered-good : Good v preferences answered-world
   unfolding Allowed heard last-heard
-  answered-good = subst (λ v. Good preferences v) second-step (play-good begun-good (world.Deliver b (hello-term hello)) (by-ear (List·Memᴰ·head refl)))
+  answered-good = subst (λ u. Good v preferences u) second-step (play-good laws begun-good (world.Deliver b (hello-term hello)) (by-ear (List·Memᴰ·head refl)))
 
   abbrev reply : Reply Term
-  reply = new-reply symbols (callee .own) (new-body symbols hello choice (fresh (length (begun-world .log))))
+  reply = new-reply (primitives v) (callee .own) (new-body (primitives v) hello choice (fresh (length (begun-world .log))))
 
   abbrev secret : Term
   secret = Fresh (length (begun-world .log)) 1
@@ -138,26 +139,26 @@ module _ {preferences : List (List ℕ)} {w : World Term} (good : Good preferenc
   callee-me : callee .me ≡ b
   callee-me = begun-good .sound b callee (called-side .1) .seat .me
 
-  signature-is : reply .signature ≡ Sign (own b 0) (body-term (reply .body))
-  signature-is = signed-by (begun-good .sound b callee (called-side .1) .seat) (body-term (reply .body)) ∙ ap (λ n. Sign (own n 0) (body-term (reply .body))) callee-me
+  signature-is : reply .signature ≡ Sign (own b 0) (v .body (reply .body))
+  signature-is = signed-by v (begun-good .sound b callee (called-side .1) .seat) (v .body (reply .body)) ∙ ap (λ n. Sign (own n 0) (v .body (reply .body))) callee-me
 
-  third : (c : Call Term) × (c .their ≡ identity b) × (play symbols (rules symbols) fresh answered-world (world.Deliver a (reply-term reply)) ≡ after answered-world a (end-call symbols caller-now reply c secret))
+  third : (c : Call Term) × (c .their ≡ identity b) × (play symbols (rules (primitives v)) fresh answered-world (world.Deliver a (reply-term reply)) ≡ after answered-world a (end-call (primitives v) caller-now reply c secret))
   unfolding by-key key-seen seen rise insert
-  third = reply-taken answered-good a caller-now reply (t .preferences) call-row begun-call begun-before (made (length (begun-world .log)) 2) secret (caller-still .1) (seat-a .seat .me) (good .sound b t at-b .seat .wishes) (seat-a .seat .proper-list) (caller-still .2) refl refl signature-is (choose-holds (t .preferences) (s .preferences) choice chosen) refl refl
+  third = reply-taken laws answered-good a caller-now reply (t .preferences) call-row begun-call begun-before (made (length (begun-world .log)) 2) secret (caller-still .1) (seat-a .seat .me) (good .sound b t at-b .seat .wishes) (seat-a .seat .proper-list) (caller-still .2) refl refl signature-is (choose-holds (t .preferences) (s .preferences) choice chosen) refl refl
 
   abbrev ending : Reaction Term
-  ending = end-call symbols caller-now reply (third .0) secret
+  ending = end-call (primitives v) caller-now reply (third .0) secret
 
   abbrev caller-ended-world : World Term
   caller-ended-world = after answered-world a ending
 
-  third-step : passed-on (rules symbols) answered-world a ≡ caller-ended-world
+  third-step : passed-on (rules (primitives v)) answered-world a ≡ caller-ended-world
   unfolding heard last-heard
   third-step = third .2
 
-  caller-ended-good : Good preferences caller-ended-world
+  caller-ended-good : Good v preferences caller-ended-world
   unfolding Allowed heard
-  caller-ended-good = subst (λ v. Good preferences v) (third .2) (play-good answered-good (world.Deliver a (reply-term reply)) (by-ear (List·Memᴰ·head refl)))
+  caller-ended-good = subst (λ u. Good v preferences u) (third .2) (play-good laws answered-good (world.Deliver a (reply-term reply)) (by-ear (List·Memᴰ·head refl)))
 
   -- the called side still has the session open
   called-side-still : (x : Side Term) × (nth (caller-ended-world .sides) b ≡ Some x) × List·Memᴰ answer-row (x .answers)
@@ -180,23 +181,23 @@ module _ {preferences : List (List ℕ)} {w : World Term} (good : Good preferenc
   answered-before = record { entry = record { what = answered answer-event; words = reply-term reply ∷ [] }; below = begun-world .log; place = there (here refl refl); is = refl }
 
   -- what the caller sent is the lock of its reply
-  sent-is : Tag kind-end (Close (Mac secret (Number 1 derive-lock)) 0 nothing (Both (reply-term reply) (symbols .sign (caller-now .own) (claim-term (reply-term reply))))) ≡ Tag kind-end (lock-of (s .me) secret reply)
+  sent-is : Tag kind-end (Close (Mac secret (Number 1 derive-lock)) 0 nothing (Both (reply-term reply) (primitives v .sign (caller-now .own) (v .claim (reply-term reply))))) ≡ Tag kind-end (lock-of v (s .me) secret reply)
   sent-is =
       let seat = answered-good .sound a caller-now (caller-still .1) .seat in
-      ap (λ x. Tag kind-end (Close (Mac secret (Number 1 derive-lock)) 0 nothing (Both (reply-term reply) x))) (signed-by seat (claim-term (reply-term reply)) ∙ ap (λ n. Sign (own n 0) (claim-term (reply-term reply))) (seat .me ∙ sym (seat-a .seat .me)))
+      ap (λ x. Tag kind-end (Close (Mac secret (Number 1 derive-lock)) 0 nothing (Both (reply-term reply) x))) (signed-by v seat (v .claim (reply-term reply)) ∙ ap (λ n. Sign (own n 0) (v .claim (reply-term reply))) (seat .me ∙ sym (seat-a .seat .me)))
 
-  fourth : (x : Answer Term) × (x .their ≡ identity (s .me)) × (x .reply ≡ reply) × (x .secret ≡ secret) × (play symbols (rules symbols) fresh caller-ended-world (world.Deliver b (Tag kind-end (lock-of (s .me) secret reply))) ≡ after caller-ended-world b (end-answer symbols callee-now (lock-of (s .me) secret reply) x))
+  fourth : (x : Answer Term) × (x .their ≡ identity (s .me)) × (x .reply ≡ reply) × (x .secret ≡ secret) × (play symbols (rules (primitives v)) fresh caller-ended-world (world.Deliver b (Tag kind-end (lock-of v (s .me) secret reply))) ≡ after caller-ended-world b (end-answer (primitives v) callee-now (lock-of v (s .me) secret reply) x))
   fourth = end-taken caller-ended-good b callee-now answer-row answer-event answered-before (called-side-still .1) (called-side-still .2) refl
 
   abbrev both-ended-world : World Term
-  both-ended-world = after caller-ended-world b (end-answer symbols callee-now (lock-of (s .me) secret reply) (fourth .0))
+  both-ended-world = after caller-ended-world b (end-answer (primitives v) callee-now (lock-of v (s .me) secret reply) (fourth .0))
 
-  fourth-step : passed-on (rules symbols) caller-ended-world b ≡ both-ended-world
+  fourth-step : passed-on (rules (primitives v)) caller-ended-world b ≡ both-ended-world
   unfolding heard last-heard
-  fourth-step = ap (λ x. play symbols (rules symbols) fresh caller-ended-world (world.Deliver b x)) sent-is ∙ fourth .4
+  fourth-step = ap (λ x. play symbols (rules (primitives v)) fresh caller-ended-world (world.Deliver b x)) sent-is ∙ fourth .4
 
-  whole : undisturbed (rules symbols) w a b ≡ both-ended-world
-  whole = ap (λ x. passed-on (rules symbols) (passed-on (rules symbols) (passed-on (rules symbols) x b) a) b) first-step ∙ ap (λ x. passed-on (rules symbols) (passed-on (rules symbols) x a) b) second-step ∙ ap (λ x. passed-on (rules symbols) x b) third-step ∙ fourth-step
+  whole : undisturbed (rules (primitives v)) w a b ≡ both-ended-world
+  whole = ap (λ x. passed-on (rules (primitives v)) (passed-on (rules (primitives v)) (passed-on (rules (primitives v)) x b) a) b) first-step ∙ ap (λ x. passed-on (rules (primitives v)) (passed-on (rules (primitives v)) x a) b) second-step ∙ ap (λ x. passed-on (rules (primitives v)) x b) third-step ∙ fourth-step
 
   abbrev caller-event : Finished Term
   caller-event = record { me = caller-now .me; their = third .0 .their; reply = reply; secret = secret }
@@ -211,9 +212,9 @@ module _ {preferences : List (List ℕ)} {w : World Term} (good : Good preferenc
   answer-entry = record { what = answered answer-event; words = reply-term reply ∷ [] }
 
   abbrev end-words : List Term
-  end-words = Tag kind-end (Close (Mac secret (Number 1 derive-lock)) 0 nothing (Both (reply-term reply) (symbols .sign (caller-now .own) (claim-term (reply-term reply))))) ∷ []
+  end-words = Tag kind-end (Close (Mac secret (Number 1 derive-lock)) 0 nothing (Both (reply-term reply) (primitives v .sign (caller-now .own) (v .claim (reply-term reply))))) ∷ []
 
-  pub both-ended : Both-ended w (undisturbed (rules symbols) w a b) a b choice
+  pub both-ended : Both-ended w (undisturbed (rules (primitives v)) w a b) a b choice
   unfolding robs
   both-ended = record {
     caller = caller-event;
@@ -222,7 +223,7 @@ module _ {preferences : List (List ℕ)} {w : World Term} (good : Good preferenc
     answer = answer-entry;
     caller-words = end-words;
     called-words = [];
-    log = ap (λ (v : World Term). v .log) whole;
+    log = ap (λ (u : World Term). u .log) whole;
     caller-side = answered-good .sound a caller-now (caller-still .1) .seat .me;
     called-side = caller-ended-good .sound b callee-now (called-side-still .1) .seat .me;
     same-reply = fourth .2;
@@ -232,5 +233,5 @@ module _ {preferences : List (List ℕ)} {w : World Term} (good : Good preferenc
     called-sure = λ x. subst (λ k. safe k (record { what = caller-ended caller-event; words = end-words } ∷ answer-entry ∷ call-entry ∷ w .log) ≡ true) (sym (fourth .1 ∙ ap identity (seat-a .seat .me))) (still-safe (identity a) (record { what = caller-ended caller-event; words = end-words }) (answer-entry ∷ call-entry ∷ w .log) refl (still-safe (identity a) answer-entry (call-entry ∷ w .log) refl (still-safe (identity a) call-entry (w .log) refl x)));
   }
 
-pub undisturbed-ends : {preferences : List (List ℕ)} {w : World Term} → Good preferences w → Undisturbed-ends (rules symbols) w
-undisturbed-ends good a b choice s t e f c = both-ended good a b choice s t e f c
+pub undisturbed-ends : {v : Variant} → Laws v → {preferences : List (List ℕ)} {w : World Term} → Good v preferences w → Undisturbed-ends (rules (primitives v)) w
+undisturbed-ends laws good a b choice s t e f c = both-ended laws good a b choice s t e f c

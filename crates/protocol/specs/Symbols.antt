@@ -181,21 +181,31 @@ rear-seen something = Raw 0
 abbrev pub nothing : Term
 nothing = Number 0 0
 
--- the primitives, with what a reply's signature is over, what an end's is over, and which element is refused, as arguments
-abbrev pub primitives : (Body Term → Term) → (Term → Term) → Term → Algebra
-primitives body claim one = record {
+-- what a reply's signature is over, what an end's is over, and which common element is refused
+pub record Variant : Type 0 where
+  pub body : Body Term → Term
+  pub claim : Term → Term
+  pub one : Term
+
+-- as the rules have it
+abbrev pub standard : Variant
+standard = record { body = body-term; claim = claim-term; one = One }
+
+-- the primitives, in any variant
+abbrev pub primitives : Variant → Algebra
+primitives v = record {
   Atom = Term;
   same = same;
   write = word-term;
   read = read-term;
-  body = body;
-  claim = claim;
+  body = v .body;
+  claim = v .claim;
   both = Both;
   front = λ t. front-seen t (seen t);
   rear = λ t. rear-seen (seen t);
   none = nothing;
   byte = λ n. Number 1 n;
-  one = one;
+  one = v .one;
   half = λ x. by-key (key-seen (seen x)) (λ k. rise k (Element []));
   common = λ x e. by-key (key-seen (seen x)) (λ k. rise k e);
   public = λ x. by-key (key-seen (seen x)) Public;
@@ -207,9 +217,9 @@ primitives body claim one = record {
   unclose = λ k n h t. unclose-seen k n h (seen t);
 }
 
--- as the rules have them
+-- the primitives as the rules have them
 abbrev pub symbols : Algebra
-symbols = primitives body-term claim-term One
+symbols = primitives standard
 
 -- what is drawn at a time
 abbrev pub fresh : ℕ → Draws Term

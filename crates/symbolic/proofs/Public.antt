@@ -194,19 +194,19 @@ derives l h (derivable.close p q v) = closes (derives l h p) (derives l h q) (de
 derives l h (derivable.unclose k e n p q) = ok-unclose l (derives l h p) (derives l h q)
 derives l h (derivable.head k m n p) = ok-head (derives l h p)
 
--- An element raised by a key that isn't known is public only if the element is the generator raised by known keys:
--- then who knows those raises the half of the other key by them.
-pub raised-by-unknown : {r : Released} (y : Key) → (r .known y → ⊥) → (e : Term) → (rise y e ≡ One → ⊥) → Ok r (rise y e) → (ks : List Key) × (e ≡ Element ks) × ((k : Key) → List·Memᴰ k ks → r .known k)
+-- An element raised by a key that isn't known is public only if it is the group's one, or if the element is the generator
+-- raised by known keys: then who knows those raises the half of the other key by them.
+pub raised-by-unknown : {r : Released} (y : Key) → (r .known y → ⊥) → (e : Term) → Ok r (rise y e) → (rise y e ≡ One) ⊎ ((ks : List Key) × (e ≡ Element ks) × ((k : Key) → List·Memᴰ k ks → r .known k))
 unfolding rise
-raised-by-unknown {r} y u (Raw n) d o = absurd (u (ok-power o y (List·Memᴰ·head refl)))
-raised-by-unknown {r} y u (Number w n) d o = absurd (u (ok-power o y (List·Memᴰ·head refl)))
-raised-by-unknown {r} y u (Listed ns) d o = absurd (u (ok-power o y (List·Memᴰ·head refl)))
-raised-by-unknown {r} y u (Fresh t i) d o = absurd (u (ok-power o y (List·Memᴰ·head refl)))
-raised-by-unknown {r} y u (Secret k) d o = absurd (u (ok-power o y (List·Memᴰ·head refl)))
-raised-by-unknown {r} y u (Public k) d o = absurd (u (ok-power o y (List·Memᴰ·head refl)))
-raised-by-unknown {r} y u One d o = absurd (d refl)
-raised-by-unknown {r} y u (Small n) d o = absurd (d refl)
-raised-by-unknown {r} y u (Element ks) d o = go (ok-few o)
+raised-by-unknown {r} y u (Raw n) o = absurd (u (ok-power o y (List·Memᴰ·head refl)))
+raised-by-unknown {r} y u (Number w n) o = absurd (u (ok-power o y (List·Memᴰ·head refl)))
+raised-by-unknown {r} y u (Listed ns) o = absurd (u (ok-power o y (List·Memᴰ·head refl)))
+raised-by-unknown {r} y u (Fresh t i) o = absurd (u (ok-power o y (List·Memᴰ·head refl)))
+raised-by-unknown {r} y u (Secret k) o = absurd (u (ok-power o y (List·Memᴰ·head refl)))
+raised-by-unknown {r} y u (Public k) o = absurd (u (ok-power o y (List·Memᴰ·head refl)))
+raised-by-unknown {r} y u One o = inl refl
+raised-by-unknown {r} y u (Small n) o = inl refl
+raised-by-unknown {r} y u (Element ks) o = inr (go (ok-few o))
   where
     same-rest : (x : Key) (rest : List Key) → insert y ks ≡ insert x rest → ((k : Key) → List·Memᴰ k rest → r .known k) → (y ≡ x) ⊎ List·Memᴰ y rest → (k : Key) → List·Memᴰ k ks → r .known k
     same-rest x rest e f (inl p) k m = f k (subst (λ l. List·Memᴰ k l) (insert-cancel y ks rest (e ∙ ap (λ z. insert z rest) (sym p))) m)
@@ -215,10 +215,10 @@ raised-by-unknown {r} y u (Element ks) d o = go (ok-few o)
     go : Few r (insert y ks) → (ls : List Key) × (Element ks ≡ Element ls) × ((k : Key) → List·Memᴰ k ls → r .known k)
     go (all f) = absurd (u (f y (insert-itself y ks)))
     go (but x rest e f) = (ks, refl, same-rest x rest e f (insert-others y x rest (subst (λ l. List·Memᴰ y l) e (insert-itself y ks))))
-raised-by-unknown {r} y u (Power e ks) d o = absurd (u (ok-power o y (insert-itself y ks)))
-raised-by-unknown {r} y u (Sign k m) d o = absurd (u (ok-power o y (List·Memᴰ·head refl)))
-raised-by-unknown {r} y u (Digest m) d o = absurd (u (ok-power o y (List·Memᴰ·head refl)))
-raised-by-unknown {r} y u (Mac k m) d o = absurd (u (ok-power o y (List·Memᴰ·head refl)))
-raised-by-unknown {r} y u (Close k n h m) d o = absurd (u (ok-power o y (List·Memᴰ·head refl)))
-raised-by-unknown {r} y u (Both a b) d o = absurd (u (ok-power o y (List·Memᴰ·head refl)))
-raised-by-unknown {r} y u (Tag n m) d o = absurd (u (ok-power o y (List·Memᴰ·head refl)))
+raised-by-unknown {r} y u (Power e ks) o = absurd (u (ok-power o y (insert-itself y ks)))
+raised-by-unknown {r} y u (Sign k m) o = absurd (u (ok-power o y (List·Memᴰ·head refl)))
+raised-by-unknown {r} y u (Digest m) o = absurd (u (ok-power o y (List·Memᴰ·head refl)))
+raised-by-unknown {r} y u (Mac k m) o = absurd (u (ok-power o y (List·Memᴰ·head refl)))
+raised-by-unknown {r} y u (Close k n h m) o = absurd (u (ok-power o y (List·Memᴰ·head refl)))
+raised-by-unknown {r} y u (Both a b) o = absurd (u (ok-power o y (List·Memᴰ·head refl)))
+raised-by-unknown {r} y u (Tag n m) o = absurd (u (ok-power o y (List·Memᴰ·head refl)))
