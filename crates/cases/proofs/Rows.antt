@@ -11,12 +11,7 @@ use Rattle.protocol.specs.Symbols.{symbols, hello-term, body-term, reply-term, 
 use Rattle.promise.specs.Promise.{identity, All-allowed}
 use Rattle.cases.specs.Table.{Row, played, hello, reply, end, first-hello, first-reply, first-end, struck-hello, forged-body, forged-reply, one-way, other-way, struck, twice, stolen-before, stolen-after, third-side, table, Holds, Every-row-holds}
 use Rattle.cases.proofs.Heard.{playing, first, second, third, fourth, hello-nonce, hello-half, own-half}
-use Rattle.cases.proofs.Keeps.{tells, only-one, kept-by}
-
--- and what tells whether a secret was given away
-computing : Unit {0}
-unfolding playing tells
-computing = tt
+use Rattle.cases.proofs.Keeps.{only-one, kept-by}
 
 -- a cipher is struck from a hello that was heard
 strike : {ts : List Term} → Gets ts (hello-term first-hello) → Gets ts (hello-term struck-hello)
@@ -24,7 +19,7 @@ strike g = tag (both number (both number (both listed (both (hello-nonce first-h
 
 -- a reply is made from a hello that was heard, with a stolen key and a drawn value and key
 forge : {ts : List Term} → Gets ts (Fresh 2 0) → Gets ts (Secret (made 2 0)) → Gets ts (hello-term (hello 0 1 (1 ∷ 2 ∷ []) 1)) → Gets ts (Secret (own 1 0)) → Gets ts (reply-term forged-reply)
-unfolding computing
+unfolding playing
 forge {ts} value key h stolen =
     let half = hello-half (hello 0 1 (1 ∷ 2 ∷ []) 1) h in
     let seal = own-half key in
@@ -32,11 +27,11 @@ forge {ts} value key h stolen =
     both body (sign stolen body)
 
 one-way-allowed : All-allowed (rules symbols) (start (one-way .preferences)) (one-way .script)
-unfolding computing
+unfolding playing
 one-way-allowed = (tt, (first, (first, (first, tt))))
 
 one-way-holds : Holds one-way
-unfolding computing
+unfolding playing
 one-way-holds = record {
   proper = refl;
   allowed = one-way-allowed;
@@ -47,11 +42,11 @@ one-way-holds = record {
 }
 
 other-way-allowed : All-allowed (rules symbols) (start (other-way .preferences)) (other-way .script)
-unfolding computing
+unfolding playing
 other-way-allowed = (tt, (first, (first, (first, tt))))
 
 other-way-holds : Holds other-way
-unfolding computing
+unfolding playing
 other-way-holds = record {
   proper = refl;
   allowed = other-way-allowed;
@@ -62,11 +57,11 @@ other-way-holds = record {
 }
 
 struck-allowed : All-allowed (rules symbols) (start (struck .preferences)) (struck .script)
-unfolding computing
+unfolding playing
 struck-allowed = (tt, (strike first, (first, tt)))
 
 struck-holds : Holds struck
-unfolding computing
+unfolding playing
 struck-holds = record {
   proper = refl;
   allowed = struck-allowed;
@@ -77,11 +72,11 @@ struck-holds = record {
 }
 
 twice-allowed : All-allowed (rules symbols) (start (twice .preferences)) (twice .script)
-unfolding computing
+unfolding playing
 twice-allowed = (tt, (first, (second, (first, (third, (first, (first, tt)))))))
 
 twice-holds : Holds twice
-unfolding computing
+unfolding playing
 twice-holds = record {
   proper = refl;
   allowed = twice-allowed;
@@ -92,11 +87,11 @@ twice-holds = record {
 }
 
 stolen-before-allowed : All-allowed (rules symbols) (start (stolen-before .preferences)) (stolen-before .script)
-unfolding computing
+unfolding playing
 stolen-before-allowed = (tt, (tt, (tt, (forge first second third fourth, tt))))
 
 stolen-before-holds : Holds stolen-before
-unfolding computing
+unfolding playing
 stolen-before-holds = record {
   proper = refl;
   allowed = stolen-before-allowed;
@@ -107,11 +102,11 @@ stolen-before-holds = record {
 }
 
 stolen-after-allowed : All-allowed (rules symbols) (start (stolen-after .preferences)) (stolen-after .script)
-unfolding computing
+unfolding playing
 stolen-after-allowed = (tt, (first, (first, (first, (tt, (tt, tt))))))
 
 stolen-after-holds : Holds stolen-after
-unfolding computing
+unfolding playing
 stolen-after-holds = record {
   proper = refl;
   allowed = stolen-after-allowed;
@@ -122,11 +117,11 @@ stolen-after-holds = record {
 }
 
 third-side-allowed : All-allowed (rules symbols) (start (third-side .preferences)) (third-side .script)
-unfolding computing
+unfolding playing
 third-side-allowed = (tt, (first, (first, (first, (first, (first, tt))))))
 
 third-side-holds : Holds third-side
-unfolding computing
+unfolding playing
 third-side-holds = record {
   proper = refl;
   allowed = third-side-allowed;

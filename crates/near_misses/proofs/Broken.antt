@@ -19,6 +19,7 @@ use Rattle.protocol.specs.Symbols.{symbols, hello-term, reply-term, word-term, 
 use Rattle.promise.specs.Run.{Log, never}
 use Rattle.promise.specs.Session.{hello-of, Answerer, Caller}
 use Rattle.promise.specs.Promise.{identity, All-allowed}
+use Rattle.promise.proofs.Events.{kind}
 use Rattle.promise.proofs.Logs.{never-was}
 use Rattle.cases.specs.Table.{reply, end, opposite, first-hello, struck-hello}
 use Rattle.cases.proofs.Heard.{playing, stands-at, first, second, third, hello-nonce, hello-half, reply-signature, reply-nonce, reply-seal, reply-box, own-half, opened}
@@ -49,16 +50,8 @@ calls-with h (told t) = false
 calls-with h drew = false
 calls-with h (spoke n) = false
 
-unfoldable caller-ends : Event Term → Bool
-caller-ends (begun b) = false
-caller-ends (answered a) = false
-caller-ends (caller-ended c) = true
-caller-ends (called-ended c) = false
-caller-ends (stolen t) = false
-caller-ends (taken t) = false
-caller-ends (told t) = false
-caller-ends drew = false
-caller-ends (spoke n) = false
+abbrev caller-ends : Event Term → Bool
+caller-ends e = eqb (kind e) 2
 
 -- whether a choice is this one
 unfoldable is-choice : Option ℕ → ℕ → Bool
@@ -66,7 +59,7 @@ is-choice None n = false
 is-choice (Some c) n = eqb c n
 
 computing : Unit {0}
-unfolding playing resaid answers-with calls-with caller-ends is-choice
+unfolding playing resaid answers-with calls-with is-choice
 computing = tt
 
 -- there is no answer with this reply
@@ -133,7 +126,6 @@ uncompared-breaks = record {
 
 -- no caller ended
 no-end : {f : Finished Term} {before : Log} → Caller f before → never caller-ends before ≡ true → ⊥
-unfolding caller-ends
 no-end {before = before} x n = never-was caller-ends before n (caller-ended (x .ended)) refl (x .ending)
 
 -- a hello of the network's own, in anybody's name

@@ -23,7 +23,7 @@ use Rattle.near_misses.specs.Scripts.{keeps-key-script, unsigned-seal-script, 
 use Rattle.near_misses.specs.Attacks.{world-after, Keeping-keys-breaks, Unsigned-seal-breaks, One-key-breaks}
 
 computing : Unit {0}
-unfolding playing tells resaid reused
+unfolding playing resaid reused
 computing = tt
 
 -- neither end told, and no private keys were taken before the end: so it didn't come out

@@ -1,6 +1,6 @@
 -- A side that answers faults tells what it did, and one that never ends keeps little. Assumes nothing.
 use mathlib.Core.Path.{_≡_, refl, sym, ap, subst, _∙_}
-use mathlib.Core.Bool.{Bool, true, false, not, _&&_}
+use mathlib.Core.Bool.{Bool, true, not, _||_}
 use mathlib.Core.List.{List, [], _∷_, _++_}
 use Prim.Native.Nat.{ℕ, suc}
 use native.Mathlib.Omega.{arith}
@@ -15,7 +15,7 @@ use Rattle.symbolic.specs.Term.{Term, Number, One, same}
 use Rattle.symbolic.specs.Derivable.{Gets, raw, number, listed, one, both, tag}
 use Rattle.protocol.specs.Got.{Got, No, Yes, bind, guard, need}
 use Rattle.protocol.specs.Side.{Side}
-use Rattle.protocol.specs.Event.{Finished, Held, Event, begun, answered, caller-ended, called-ended, stolen, taken, told, drew, spoke, Entry, held}
+use Rattle.protocol.specs.Event.{Finished, Held, Event, caller-ended, called-ended, spoke, Entry, held}
 use Rattle.protocol.specs.Step.{Reaction, begin-call, call, give-answer, take-hello}
 use Rattle.protocol.specs.World as world
 use Rattle.protocol.specs.World.{World, Command, handle, settled, ordered, acted, entry-at, told-by, revealed, play}
@@ -25,6 +25,7 @@ use Rattle.protocol.specs.Symbols.{symbols, fresh, hello-term, new-keys, new-si
 use Rattle.protocol.proofs.Steps.{yes-same, no-yes, by-bind, by-guard, by-need}
 use Rattle.promise.specs.Run.{Log, Past, never, Reach, begin, more}
 use Rattle.promise.specs.Promise.{Both-ended, undisturbed}
+use Rattle.promise.proofs.Events.{kind}
 use Rattle.promise.proofs.Logs.{never-was}
 use Rattle.cases.specs.Table.{opposite}
 use Rattle.cases.proofs.Heard.{playing}
@@ -49,16 +50,8 @@ answered-faults-tell = record {
 }
 
 -- whether an event ends a session
-unfoldable ends : Event Term → Bool
-ends (begun b) = false
-ends (answered a) = false
-ends (caller-ended c) = true
-ends (called-ended c) = true
-ends (stolen t) = false
-ends (taken t) = false
-ends (told t) = false
-ends drew = false
-ends (spoke n) = false
+abbrev ends : Event Term → Bool
+ends e = eqb (kind e) 2 || eqb (kind e) 3
 
 never-both : (p : Event Term → Bool) (xs ys : Log) → never p xs ≡ true → never p ys ≡ true → never p (xs ++ ys) ≡ true
 unfolding never
@@ -82,13 +75,13 @@ settled-endless s (No n) f = refl
 settled-endless s (Yes r) f = f r refl
 
 call-endless : (s : Side Term) (peer t : ℕ) (r : Reaction Term) → call symbols s peer (fresh t) ≡ Yes r → never ends (r .entries) ≡ true
-unfolding call never ends
+unfolding call never
 call-endless s peer t r e =
     let x = by-need wrong-side (nth (s .keys) peer) _ r e in
     ap (λ (y : Reaction Term). never ends (y .entries)) (sym (yes-same (begin-call symbols s peer (fresh t) (x .0)) r (x .2)))
 
 handle-endless : (s : Side Term) (t : ℕ) (w : Word Term) (r : Reaction Term) → handle never-ends s (fresh t) w ≡ Yes r → never ends (r .entries) ≡ true
-unfolding handle take-hello never ends
+unfolding handle take-hello never
 handle-endless s t (a-hello h) r e =
     let a = by-guard wrong-side (eqb (h .called) (s .me)) _ r e in
     let b = by-need wrong-side (nth (s .keys) (h .caller)) _ r (a .1) in
@@ -99,7 +92,7 @@ handle-endless s t (a-reply x) r e = absurd (no-yes 4 r e)
 handle-endless s t (an-end x) r e = absurd (no-yes 9 r e)
 
 told-endless : (n : ℕ) (k : Option (Held Term)) → never ends (told-by n k) ≡ true
-unfolding told-by never ends
+unfolding told-by never
 told-endless n None = refl
 told-endless n (Some k) = refl
 
@@ -109,7 +102,7 @@ revealed-endless n None = refl
 revealed-endless n (Some e) = told-endless n (held (e .what))
 
 play-endless : (w : World Term) (c : Command Term) → never ends (w .log) ≡ true → never ends (play symbols never-ends fresh w c .log) ≡ true
-unfolding play never ends
+unfolding play never
 play-endless w (world.Call a b) e = acted-endless w a (nth (w .sides) a) _ e (λ s. ordered-endless s (call symbols s b (fresh (length (w .log)))) (λ r f. call-endless s b (length (w .log)) r f))
 play-endless w (world.Deliver a t) e = acted-endless w a (nth (w .sides) a) _ e (λ s. settled-endless s (bind (symbols .read t) (handle never-ends s (fresh (length (w .log))))) (λ r f. let b = by-bind (symbols .read t) (handle never-ends s (fresh (length (w .log)))) r f in handle-endless s (length (w .log)) (b .0) r (b .2)))
 play-endless w (world.Steal a) e = acted-endless w a (nth (w .sides) a) _ e (λ s. refl)
@@ -123,11 +116,9 @@ reach-endless (begin a e) = subst (λ (w : World Term). never ends (w .log) ≡ 
 reach-endless (more {v = v} r c x e) = subst (λ (w : World Term). never ends (w .log) ≡ true) e (play-endless v c (reach-endless r))
 
 no-caller : {preferences : List (List ℕ)} {w : World Term} → Reach never-ends preferences w → (c : Finished Term) → Past (w .log) (caller-ended c) → ⊥
-unfolding ends
 no-caller {w = w} r c p = never-was ends (w .log) (reach-endless r) (caller-ended c) refl p
 
 no-called : {preferences : List (List ℕ)} {w : World Term} → Reach never-ends preferences w → (c : Finished Term) → Past (w .log) (called-ended c) → ⊥
-unfolding ends
 no-called {w = w} r c p = never-was ends (w .log) (reach-endless r) (called-ended c) refl p
 
 -- a call and an answer are two things, and not four

@@ -1,34 +1,28 @@
 -- Without marks, and without refusing the group's one, the promise still holds. Assumes nothing.
-use mathlib.Core.Path.{_≡_, refl, sym, _∙_}
+use mathlib.Core.Path.{_≡_, refl, ap}
 use mathlib.Core.Bool.{Bool, true, false}
 use mathlib.Core.List.{List, [], _∷_}
 use Prim.Native.Nat.{ℕ}
 use native.Mathlib.Omega.{arith}
 use Rattle.std.specs.declared.option.Option.{Option}
 use Rattle.std.specs.declared.option.Option.the-variants.{Some, None}
+use Rattle.words.specs.Registry.{mark-reply}
 use Rattle.symbolic.specs.Key.{Key}
 use Rattle.symbolic.specs.Term.{Term, Raw, Number, Listed, Fresh, Secret, Public, One, Small, Element, Power, Sign, Digest, Mac, Close, Both, Tag, same, rise, seen}
 use Rattle.symbolic.proofs.Terms.{same-is}
 use Rattle.symbolic.proofs.Public.{Released, Ok, ok-left, ok-right, ok-untag}
 use Rattle.symbolic.proofs.Public as public
 use Rattle.protocol.specs.Words.{Body, Reply}
-use Rattle.protocol.specs.Symbols.{hello-term, body-term, reply-term, by-key, key-seen, primitives}
-use Rattle.protocol.proofs.Apart.{hello-same, body-same, claims-same, marks-apart}
+use Rattle.protocol.specs.Symbols.{reply-term, by-key, key-seen, primitives}
+use Rattle.protocol.proofs.Apart.{body-same, claims-same, marks-apart}
 use Rattle.promise.proofs.Variants.{Laws}
 use Rattle.promise.proofs.Promised.{promised-in}
-use Rattle.near_misses.specs.Weak.{part-of-called, unmarked}
+use Rattle.near_misses.specs.Weak.{unmarked}
 use Rattle.near_misses.specs.Safeguards.{Still-promised, without-marks, Marks-are-a-safeguard, without-refusing, Refusing-the-one-is-a-safeguard}
 
 -- what is signed of a reply without its mark still determines it
 unmarked-same : (x y : Body Term) → unmarked x ≡ unmarked y → x ≡ y
-unmarked-same x y e =
-    let t : hello-term (x .hello) ≡ hello-term (y .hello) = cc in
-    let a = hello-same (x .hello) (y .hello) t in
-    let b : x .choice ≡ y .choice = cc in
-    let c : x .nonce ≡ y .nonce = cc in
-    let d : x .seal ≡ y .seal = cc in
-    let f : x .box ≡ y .box = cc in
-    λ i. record { hello = a i; choice = b i; nonce = c i; seal = d i; box = f i }
+unmarked-same x y e = body-same x y (ap (Tag mark-reply) e)
 
 -- and is never a whole reply: a hello begins with another byte than a reply
 unmarked-apart : (x : Body Term) (r : Reply Term) → unmarked x ≡ reply-term r → ⊥

@@ -72,12 +72,13 @@ unsigned-hello = signing part-of-called
 abbrev pub take-any-reply : Side Term → Reply Term → Got (Reaction Term)
 take-any-reply s r =
     guard wrong-side (eqb (r .body .hello .caller) (s .me))
-    (need no-such-call (seek (λ c. true) (s .calls)) (λ c.
+    (need wrong-side (nth (s .keys) (r .body .hello .called)) (λ _.
+    need no-such-call (seek (λ c. true) (s .calls)) (λ c.
     guard bad-signature (symbols .verifies (c .their) (symbols .body (r .body)) (r .signature))
     (guard not-offered (holds (c .hello .offer) (r .body .choice))
     (need seal-shut (unsealed symbols (c .secret) (r .body .seal) (r .body .box)) (λ secret.
     guard common-one (not (same (symbols .common (c .secret) (r .body .seal)) One))
-    (Yes (end-call symbols s r c secret)))))))
+    (Yes (end-call symbols s r c secret))))))))
 
 abbrev pub uncompared : Handlers Term
 uncompared = record { on-call = call symbols; on-hello = take-hello symbols; on-reply = take-any-reply; on-end = take-end symbols; on-refusal = refuse symbols }
@@ -107,7 +108,8 @@ believes-hellos = record {
       guard wrong-side (eqb (h .called) (s .me))
       (need wrong-side (nth (s .keys) (h .caller)) (λ their.
       need nothing-in-common (choose (s .preferences) (h .offer)) (λ c.
-      Yes (believe s h d their c))));
+      guard common-one (not (same (symbols .common (d .key 2) (h .half)) One))
+      (Yes (believe s h d their c)))));
   on-reply = take-reply symbols;
   on-end = take-end symbols;
   on-refusal = refuse symbols;
