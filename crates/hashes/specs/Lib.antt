@@ -1,0 +1,4 @@
+pub mod Words
+pub mod Sha256
+pub mod Hmac
+pub mod Streams
