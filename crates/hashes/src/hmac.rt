@@ -17,6 +17,7 @@ const INNER_PAD: u8 = 0x36;
 const OUTER_PAD: u8 = 0x5c;
 
 // A key, kept as the states after its two pads.
+#[repr(C)]
 #[derive(Clone, Copy)]
 pub struct HmacKey {
     inner: State,

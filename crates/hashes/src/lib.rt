@@ -4,3 +4,4 @@ pub mod hasher;
 pub mod hmac;
 pub mod state;
 pub mod word;
+pub mod exports;

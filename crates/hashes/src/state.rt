@@ -3,6 +3,7 @@ ghost use mathlib.Core.Path.{_≡_};
 ghost use Rattle.hashes.specs.Sha256.{initial};
 
 // The words H of the standard, and a to h within a block.
+#[repr(C)]
 #[derive(Clone, Copy)]
 pub struct State {
     pub a: u32,
