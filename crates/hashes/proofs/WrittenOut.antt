@@ -1,11 +1,13 @@
 -- Sixteen rounds written out one by one are the rounds of the definition. Assumes nothing.
 use mathlib.Core.List.{List, [], _∷_}
 use mathlib.Core.Path.{_≡_, refl, sym, ap, _∙_}
-use Prim.Native.Nat.{ℕ, suc}
+use Prim.Native.Nat.{ℕ, suc, _+_, _<_, _≤_}
+use native.Mathlib.Nat.{add-zero}
 use native.Mathlib.Omega.{arith}
-use lib.ListN.{length, getD}
+use lib.ListN.{length, getD, take, drop, length-drop}
+use Rattle.std.proofs.shelf.Lists.{getD-take, getD-drop, length-take-le}
 use Rattle.hashes.specs.declared.state.State.{State}
-use Rattle.hashes.specs.Sha256.{next-word, slid, slid-by, sums, round, rounds}
+use Rattle.hashes.specs.Sha256.{next-word, slid, slid-by, sums, round, rounds, constants}
 use Rattle.hashes.specs.Words.{plus}
 
 -- a list of sixteen, element by element
@@ -118,3 +120,52 @@ sixteen-rounds ks ws hk hw s0 s1 s2 s3 s4 s5 s6 s7 s8 s9 s10 s11 s12 s13 s14 s15
     sixteen s0 s1 s2 s3 s4 s5 s6 s7 s8 s9 s10 s11 s12 s13 s14 s15 s16 _ _ _ _ _ _ _ _ _ _ _ _ _ _ _ _ _ _ _ _ _ _ _ _ _ _ _ _ _ _ _ _ e0 e1 e2 e3 e4 e5 e6 e7 e8 e9 e10 e11 e12 e13 e14 e15
     ∙ ap (λ xs. rounds s0 (sums xs (getD ws 0 0 ∷ getD ws 1 0 ∷ getD ws 2 0 ∷ getD ws 3 0 ∷ getD ws 4 0 ∷ getD ws 5 0 ∷ getD ws 6 0 ∷ getD ws 7 0 ∷ getD ws 8 0 ∷ getD ws 9 0 ∷ getD ws 10 0 ∷ getD ws 11 0 ∷ getD ws 12 0 ∷ getD ws 13 0 ∷ getD ws 14 0 ∷ getD ws 15 0 ∷ []))) (sym (spelled ks hk))
     ∙ ap (λ xs. rounds s0 (sums ks xs)) (sym (spelled ws hw))
+
+length-constants : length constants ≡ 64
+unfolding constants
+length-constants = refl
+
+-- sixteen constants from a place on
+quarter-of : (from i : ℕ) → i < 16 → getD constants (from + i) 0 ≡ getD (take 16 (drop from constants)) i 0
+quarter-of from i h = sym (getD-take 16 (drop from constants) i 0 h ∙ getD-drop from constants i 0)
+
+length-quarter : (from : ℕ) → from ≤ 48 → length (take 16 (drop from constants)) ≡ 16
+length-quarter from h = length-take-le 16 (drop from constants) (omega (arith, length-drop from constants, length-constants))
+
+-- sixteen rounds, by the constants from a place on
+pub rounds-from : (from : ℕ) → from ≤ 48 → (ws : List ℕ) → length ws ≡ 16 → (s0 s1 s2 s3 s4 s5 s6 s7 s8 s9 s10 s11 s12 s13 s14 s15 s16 : State)
+    → s1 ≡ round s0 (plus (getD constants from 0) (getD ws 0 0))
+    → s2 ≡ round s1 (plus (getD constants (from + 1) 0) (getD ws 1 0))
+    → s3 ≡ round s2 (plus (getD constants (from + 2) 0) (getD ws 2 0))
+    → s4 ≡ round s3 (plus (getD constants (from + 3) 0) (getD ws 3 0))
+    → s5 ≡ round s4 (plus (getD constants (from + 4) 0) (getD ws 4 0))
+    → s6 ≡ round s5 (plus (getD constants (from + 5) 0) (getD ws 5 0))
+    → s7 ≡ round s6 (plus (getD constants (from + 6) 0) (getD ws 6 0))
+    → s8 ≡ round s7 (plus (getD constants (from + 7) 0) (getD ws 7 0))
+    → s9 ≡ round s8 (plus (getD constants (from + 8) 0) (getD ws 8 0))
+    → s10 ≡ round s9 (plus (getD constants (from + 9) 0) (getD ws 9 0))
+    → s11 ≡ round s10 (plus (getD constants (from + 10) 0) (getD ws 10 0))
+    → s12 ≡ round s11 (plus (getD constants (from + 11) 0) (getD ws 11 0))
+    → s13 ≡ round s12 (plus (getD constants (from + 12) 0) (getD ws 12 0))
+    → s14 ≡ round s13 (plus (getD constants (from + 13) 0) (getD ws 13 0))
+    → s15 ≡ round s14 (plus (getD constants (from + 14) 0) (getD ws 14 0))
+    → s16 ≡ round s15 (plus (getD constants (from + 15) 0) (getD ws 15 0))
+    → s16 ≡ rounds s0 (sums (take 16 (drop from constants)) ws)
+rounds-from from h ws hw s0 s1 s2 s3 s4 s5 s6 s7 s8 s9 s10 s11 s12 s13 s14 s15 s16 e0 e1 e2 e3 e4 e5 e6 e7 e8 e9 e10 e11 e12 e13 e14 e15 =
+    sixteen-rounds (take 16 (drop from constants)) ws (length-quarter from h) hw s0 s1 s2 s3 s4 s5 s6 s7 s8 s9 s10 s11 s12 s13 s14 s15 s16
+    (e0 ∙ ap (λ k. round s0 (plus k (getD ws 0 0))) (ap (λ i. getD constants i 0) (sym (add-zero from)) ∙ quarter-of from 0 (omega arith)))
+    (e1 ∙ ap (λ k. round s1 (plus k (getD ws 1 0))) (quarter-of from 1 (omega arith)))
+    (e2 ∙ ap (λ k. round s2 (plus k (getD ws 2 0))) (quarter-of from 2 (omega arith)))
+    (e3 ∙ ap (λ k. round s3 (plus k (getD ws 3 0))) (quarter-of from 3 (omega arith)))
+    (e4 ∙ ap (λ k. round s4 (plus k (getD ws 4 0))) (quarter-of from 4 (omega arith)))
+    (e5 ∙ ap (λ k. round s5 (plus k (getD ws 5 0))) (quarter-of from 5 (omega arith)))
+    (e6 ∙ ap (λ k. round s6 (plus k (getD ws 6 0))) (quarter-of from 6 (omega arith)))
+    (e7 ∙ ap (λ k. round s7 (plus k (getD ws 7 0))) (quarter-of from 7 (omega arith)))
+    (e8 ∙ ap (λ k. round s8 (plus k (getD ws 8 0))) (quarter-of from 8 (omega arith)))
+    (e9 ∙ ap (λ k. round s9 (plus k (getD ws 9 0))) (quarter-of from 9 (omega arith)))
+    (e10 ∙ ap (λ k. round s10 (plus k (getD ws 10 0))) (quarter-of from 10 (omega arith)))
+    (e11 ∙ ap (λ k. round s11 (plus k (getD ws 11 0))) (quarter-of from 11 (omega arith)))
+    (e12 ∙ ap (λ k. round s12 (plus k (getD ws 12 0))) (quarter-of from 12 (omega arith)))
+    (e13 ∙ ap (λ k. round s13 (plus k (getD ws 13 0))) (quarter-of from 13 (omega arith)))
+    (e14 ∙ ap (λ k. round s14 (plus k (getD ws 14 0))) (quarter-of from 14 (omega arith)))
+    (e15 ∙ ap (λ k. round s15 (plus k (getD ws 15 0))) (quarter-of from 15 (omega arith)))

@@ -1,4 +1,5 @@
 use mathlib.Core.Path.{refl}
+use lib.ListN.{take, drop}
 use Rattle.hashes.specs.Sha256.{constants}
 use Rattle.hashes.proofs.Rounds.{by-quarters}
 use Rattle.hashes.proofs.compress.compress.Needs as need
@@ -6,7 +7,7 @@ use Rattle.hashes.proofs.compress.compress.Needs as need
 pub returns : need.returns
 unfolding constants
 returns c =
-    by-quarters (c .args .state) (c .args .block .now) _ _ _ _ refl refl refl refl refl
+    by-quarters (c .args .state) (c .args .block .now) (take 16 constants) (take 16 (drop 16 constants)) (take 16 (drop 32 constants)) (take 16 (drop 48 constants)) refl refl refl refl refl
     (c .block-words-w .result) (c .more-rounds .result .1) (c .more-rounds-2 .result .1)
     (c .first-rounds-s .result) (c .more-rounds .result .0) (c .more-rounds-2 .result .0) (c .more-rounds-3 .result .0) (c .add .result)
     (c .block-words-w .ensures) (c .first-rounds-s .ensures)

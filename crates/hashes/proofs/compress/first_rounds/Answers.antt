@@ -1,9 +1,13 @@
+use mathlib.Core.Path.{refl}
+use lib.ListN.{take}
+use Rattle.hashes.specs.Sha256.{constants}
 use Rattle.hashes.proofs.WrittenOut.{sixteen-rounds}
 use Rattle.hashes.proofs.compress.first_rounds.Needs as need
 
 pub returns : need.returns
+unfolding constants
 returns c =
-    sixteen-rounds (c .args .k .now) (c .args .w .now) (c .told-k) (c .told-w)
+    sixteen-rounds (take 16 constants) (c .args .w .now) refl (c .told-w)
     (c .args .s)
     (c .one-round-s .result)
     (c .one-round-s-2 .result)

@@ -1,17 +1,36 @@
 use mathlib.Core.List.{List, [], _∷_}
 use mathlib.Core.Path.{_≡_, refl, ap, _∙_}
 use Prim.Native.Nat.{ℕ}
-use Rattle.hashes.specs.Sha256.{rounds, sums, slid-by}
-use Rattle.hashes.proofs.WrittenOut.{following-words, sixteen-rounds}
+use lib.ListN.{take, drop}
+use Rattle.hashes.specs.Sha256.{constants, rounds, sums, slid-by}
+use Rattle.hashes.proofs.WrittenOut.{following-words, rounds-from}
+use Rattle.hashes.proofs.compress.more_rounds.Given as given
 use Rattle.hashes.proofs.compress.more_rounds.Needs as need
 
 -- the words that the rounds are by
-unfoldable made : need.After-one-round-s-16 → List ℕ
-made c = c .following-w0 .result ∷ c .following-w1 .result ∷ c .following-w2 .result ∷ c .following-w3 .result ∷ c .following-w4 .result ∷ c .following-w5 .result ∷ c .following-w6 .result ∷ c .following-w7 .result ∷ c .following-w8 .result ∷ c .following-w9 .result ∷ c .following-w10 .result ∷ c .following-w11 .result ∷ c .following-w12 .result ∷ c .following-w13 .result ∷ c .following-w14 .result ∷ c .following-w15 .result ∷ []
+unfoldable made : (g : given.Over) → need.After-one-round-s-16 g → List ℕ
+made g c =
+    c .following-w0 .result
+    ∷ c .following-w1 .result
+    ∷ c .following-w2 .result
+    ∷ c .following-w3 .result
+    ∷ c .following-w4 .result
+    ∷ c .following-w5 .result
+    ∷ c .following-w6 .result
+    ∷ c .following-w7 .result
+    ∷ c .following-w8 .result
+    ∷ c .following-w9 .result
+    ∷ c .following-w10 .result
+    ∷ c .following-w11 .result
+    ∷ c .following-w12 .result
+    ∷ c .following-w13 .result
+    ∷ c .following-w14 .result
+    ∷ c .following-w15 .result
+    ∷ []
 
-made-follow : (c : need.After-one-round-s-16) → made c ≡ slid-by 16 (c .args .w .now)
+made-follow : (g : given.Over) (c : need.After-one-round-s-16 g) → made g c ≡ slid-by 16 (c .args .w .now)
 unfolding made
-made-follow c =
+made-follow g c =
     following-words (c .args .w .now) (c .told-w)
     (c .following-w0 .result)
     (c .following-w1 .result)
@@ -46,10 +65,10 @@ made-follow c =
     (c .following-w14 .ensures)
     (c .following-w15 .ensures)
 
-rounds-by-made : (c : need.After-one-round-s-16) → c .one-round-s-16 .result ≡ rounds (c .args .s) (sums (c .args .k .now) (made c))
-unfolding made
-rounds-by-made c =
-    sixteen-rounds (c .args .k .now) (made c) (c .told-k) refl
+rounds-by-made : (g : given.Over) (c : need.After-one-round-s-16 g) → c .one-round-s-16 .result ≡ rounds (c .args .s) (sums (take 16 (drop (g .FROM) constants)) (made g c))
+unfolding made constants
+rounds-by-made g c =
+    rounds-from (g .FROM) (c .pre) (made g c) refl
     (c .args .s)
     (c .one-round-s .result)
     (c .one-round-s-2 .result)
@@ -86,8 +105,8 @@ rounds-by-made c =
 
 pub returns : need.returns
 unfolding made
-returns c =
+returns g c =
     record {
-      state = rounds-by-made c ∙ ap (λ ws. rounds (c .args .s) (sums (c .args .k .now) ws)) (made-follow c);
-      words = made-follow c;
+      state = rounds-by-made g c ∙ ap (λ ws. rounds (c .args .s) (sums (take 16 (drop (g .FROM) constants)) ws)) (made-follow g c);
+      words = made-follow g c;
     }
