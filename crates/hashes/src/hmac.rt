@@ -2,6 +2,7 @@
 ghost use mathlib.Core.List.{List, _++_, [], map};
 ghost use mathlib.Core.Path.{_≡_};
 ghost use Prim.Native.Nat.{ℕ, _≤_};
+ghost use lib.Dec.{ltb};
 ghost use lib.ListN.{length};
 ghost use Rattle.hashes.specs.Hmac.{filled-up, hmac-sha256, key-block, masked};
 ghost use Rattle.hashes.specs.Sha256.{compressed, initial, sha256};
@@ -39,11 +40,18 @@ fn filled_up(key: &[u8]) -> [u8; 64]
     written(&[0; 64], 0, key)
 }
 
+// Whether a key is longer than a block, and so hashed first.
+fn is_long(size: usize) -> bool
+    ensures { λ r. ⌜ r ≡ ltb 64 size ⌝ }
+{
+    size > 64
+}
+
 // The block that a key stands for.
 fn key_block(key: &[u8]) -> [u8; 64]
     ensures { λ r. ⌜ r ≡ key-block (now (key .entry)) ⌝ }
 {
-    if key.len() > 64 {
+    if is_long(key.len()) {
         filled_up(&digest(key))
     } else {
         filled_up(key)
