@@ -6,8 +6,8 @@ use native.Mathlib.Nat.{zero-add, suc-add}
 use native.Mathlib.Omega.{arith}
 use lib.ListN.{length, take, drop, length-append, length-drop}
 use Rattle.std.proofs.shelf.Lists.{take-append-le, drop-append-le, take-all, nil-from-length}
-use Rattle.hashes.specs.declared.state.State.{State}
-use Rattle.hashes.specs.Sha256.{compressed, blocks}
+use Rattle.sha256.specs.declared.state.State.{State}
+use Rattle.sha256.specs.Sha256.{compressed, blocks}
 
 -- some blocks, and then the others
 pub blocks-append : (n k : ℕ) (s : State) (xs ys : List ℕ) → length xs ≡ n * 64 → blocks (n + k) s (xs ++ ys) ≡ blocks k (blocks n s xs) ys

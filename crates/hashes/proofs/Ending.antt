@@ -5,10 +5,10 @@ use Prim.Native.Nat.{ℕ, zero, suc, _+_, _-_, _*_, _/_, _%_, _^_, _<_, _≤_}
 use native.Mathlib.Omega.{arith}
 use lib.ListN.{length, getD, set, take, drop, replicate, length-append, length-replicate}
 use Rattle.std.proofs.shelf.Lists.{append-nil, take-at, set-at, drop-all, drop-replicate, length-take-le, replicate-append-replicate}
-use Rattle.hashes.specs.declared.state.State.{State}
+use Rattle.sha256.specs.declared.state.State.{State}
 use Rattle.hashes.specs.declared.hasher.Hasher.{Hasher}
-use Rattle.hashes.specs.Sha256.{initial, compressed, blocks, number-bytes, zeros, padding, padded, digested, state-bytes}
-use Rattle.hashes.specs.Words.{word-bytes}
+use Rattle.sha256.specs.Sha256.{initial, compressed, blocks, number-bytes, zeros, padding, padded, digested, state-bytes}
+use Rattle.sha256.specs.Words.{word-bytes}
 use Rattle.hashes.specs.Streams.{Holds}
 use Rattle.hashes.proofs.Blocks.{blocks-append, blocks-one}
 

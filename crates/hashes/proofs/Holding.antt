@@ -5,9 +5,9 @@ use Prim.Native.Nat.{ℕ, zero, suc, _+_, _-_, _*_, _/_, _%_, _^_, _<_, _≤_}
 use native.Mathlib.Omega.{arith}
 use lib.ListN.{length, take, drop, length-append, length-drop}
 use Rattle.std.proofs.shelf.Lists.{append-nil, take-at, length-take-le, drop-all}
-use Rattle.hashes.specs.declared.state.State.{State}
+use Rattle.sha256.specs.declared.state.State.{State}
 use Rattle.hashes.specs.declared.hasher.Hasher.{Hasher}
-use Rattle.hashes.specs.Sha256.{initial, compressed, blocks}
+use Rattle.sha256.specs.Sha256.{initial, compressed, blocks}
 use Rattle.hashes.specs.Streams.{Holds}
 use Rattle.hashes.proofs.Blocks.{blocks-append, blocks-one}
 

@@ -10,10 +10,10 @@ use lib.Dec.{ltb}
 use lib.ListN.{length, getD, set, take, drop, replicate, length-append, length-replicate, length-map}
 use Rattle.std.proofs.shelf.Lists.{append-nil, drop-replicate, map-more, take-more-set}
 use Rattle.std.proofs.shelf.Tests.{cases-bool, cond-true, cond-false, ltb-true, ltb-false, lt-ltb, le-ltb}
-use Rattle.hashes.specs.declared.state.State.{State}
+use Rattle.sha256.specs.declared.state.State.{State}
 use Rattle.hashes.specs.declared.hasher.Hasher.{Hasher}
 use Rattle.hashes.specs.Hmac.{filled-up, key-block, masked, inner-pad, outer-pad, hmac-sha256}
-use Rattle.hashes.specs.Sha256.{initial, compressed, state-bytes, sha256}
+use Rattle.sha256.specs.Sha256.{initial, compressed, state-bytes, sha256}
 use Rattle.hashes.specs.Streams.{Holds}
 
 pub length-sha256 : (m : List ℕ) → length (sha256 m) ≡ 32

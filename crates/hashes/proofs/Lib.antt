@@ -1,6 +1,3 @@
-mod BitLaws
-mod Rounds
-mod WrittenOut
 mod Blocks
 mod Holding
 mod Ending

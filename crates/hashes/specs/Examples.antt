@@ -4,7 +4,7 @@ use mathlib.Core.Path.{_≡_}
 use Prim.Native.Nat.{ℕ}
 use lib.Chars.{codes}
 use Rattle.hashes.specs.Hmac.{hmac-sha256}
-use Rattle.hashes.specs.Sha256.{sha256}
+use Rattle.sha256.specs.Sha256.{sha256}
 
 pub record Examples : Type 0 where
   -- the empty message, and the two short ones of RFC 6234

@@ -5,7 +5,7 @@ use Prim.Native.Nat.{ℕ, _-_}
 use lib.Bits.{bitXor}
 use lib.Dec.{ltb}
 use lib.ListN.{length, replicate}
-use Rattle.hashes.specs.Sha256.{sha256}
+use Rattle.sha256.specs.Sha256.{sha256}
 
 -- a key of at most a block, with zeros behind it
 abbrev pub filled-up : List ℕ → List ℕ

@@ -7,7 +7,7 @@ use Rattle.hashes.specs.declared.hasher.Hasher.{Hasher}
 use Rattle.hashes.specs.declared.hmac.KeyedHasher.{KeyedHasher}
 use Rattle.hashes.specs.declared.hmac.HmacKey.{HmacKey}
 use Rattle.hashes.specs.Hmac.{inner-pad, outer-pad}
-use Rattle.hashes.specs.Sha256.{initial, blocks, compressed}
+use Rattle.sha256.specs.Sha256.{initial, blocks, compressed}
 
 -- a hasher has taken this message: its whole blocks are compressed, the rest stands in the buffer
 pub record Holds (hasher : Hasher) (message : List ℕ) : Type 0 where

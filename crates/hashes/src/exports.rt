@@ -3,7 +3,7 @@ ghost use mathlib.Core.List.{List};
 ghost use mathlib.Core.Path.{_≡_};
 ghost use Prim.Native.Nat.{ℕ};
 ghost use Rattle.hashes.specs.Hmac.{hmac-sha256};
-ghost use Rattle.hashes.specs.Sha256.{sha256};
+ghost use Rattle.sha256.specs.Sha256.{sha256};
 ghost use Rattle.hashes.specs.Streams.{Keyed};
 use crate::hasher::digest;
 use crate::hmac::HmacKey;

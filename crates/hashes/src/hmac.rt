@@ -5,13 +5,13 @@ ghost use Prim.Native.Nat.{ℕ, _≤_};
 ghost use lib.Dec.{ltb};
 ghost use lib.ListN.{length};
 ghost use Rattle.hashes.specs.Hmac.{filled-up, hmac-sha256, key-block, masked};
-ghost use Rattle.hashes.specs.Sha256.{compressed, initial, sha256};
+ghost use Rattle.sha256.specs.Sha256.{compressed, initial, sha256};
 ghost use Rattle.hashes.specs.Streams.{Keyed, Holds-under};
-use crate::compress::compress;
 use crate::hasher::Hasher;
 use crate::hasher::digest;
 use crate::hasher::written;
-use crate::state::State;
+use sha256::compress::compress;
+use sha256::state::State;
 
 const INNER_PAD: u8 = 0x36;
 

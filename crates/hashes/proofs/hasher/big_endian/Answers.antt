@@ -1,5 +1,5 @@
 use borrow.Author.Needs.{needs}
-use Rattle.hashes.specs.Sha256.{number-bytes}
+use Rattle.sha256.specs.Sha256.{number-bytes}
 use Rattle.hashes.proofs.hasher.big_endian.Needs as need
 
 pub returns : need.returns

@@ -2,7 +2,7 @@ use mathlib.Core.Path.{refl, sym, ap, _∙_}
 use Prim.Native.Nat.{_/_, _≤_}
 use native.Mathlib.Omega.{arith}
 use lib.ListN.{length}
-use Rattle.hashes.specs.Sha256.{blocks}
+use Rattle.sha256.specs.Sha256.{blocks}
 use Rattle.hashes.proofs.Blocks.{blocks-next, blocks-none}
 use Rattle.hashes.proofs.hasher.compress_blocks.Needs as need
 

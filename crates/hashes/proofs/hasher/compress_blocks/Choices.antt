@@ -1,7 +1,7 @@
 use mathlib.Core.Path.{_≡_}
 use Prim.Native.Nat.{_/_}
 use lib.ListN.{length}
-use Rattle.hashes.specs.Sha256.{blocks}
+use Rattle.sha256.specs.Sha256.{blocks}
 use Rattle.hashes.proofs.hasher.compress_blocks.Given as given
 
 abbrev pub Inv-loop-block : given.InvT-loop-block

@@ -1,5 +1,5 @@
 use mathlib.Core.Path.{ap, _∙_}
-use Rattle.hashes.specs.Sha256.{sha256, state-bytes}
+use Rattle.sha256.specs.Sha256.{sha256, state-bytes}
 use Rattle.hashes.proofs.hasher.Hasher.finish.Needs as need
 
 pub returns : need.returns

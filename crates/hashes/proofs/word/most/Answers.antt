@@ -1,6 +1,0 @@
-use native.Mathlib.Omega.{arith}
-use Rattle.hashes.proofs.BitLaws.{majority-law}
-use Rattle.hashes.proofs.word.most.Needs as need
-
-pub returns : need.returns
-returns c = majority-law (c .args .x) (c .args .y) (c .args .z) (omega arith) (omega arith) (omega arith)
