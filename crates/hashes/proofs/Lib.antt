@@ -1,0 +1,4 @@
+mod Blocks
+mod Holding
+mod Ending
+mod Keys
