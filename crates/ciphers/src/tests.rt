@@ -1,5 +1,9 @@
 // The block of RFC 8439, section 2.3.2, and where the counter ends.
 use crate::chacha20::turn;
+use crate::closing::close;
+use crate::closing::close_word;
+use crate::closing::open;
+use crate::closing::open_word;
 use std::test::*;
 
 #[test]
@@ -28,4 +32,45 @@ fn the_counter_ends() -> Result<(), Fail> {
     check(bytes[0] == 7)?;
     check(bytes[64] == 7)?;
     check(turn(&[1; 32], u32::MAX - 1, &[2; 12], &mut bytes).is_ok())
+}
+
+// The beginning of the encryption in RFC 8439, section 2.4.2.
+#[test]
+fn text_of_the_rfc() -> Result<(), Fail> {
+    let mut key = [0u8; 32];
+    for i in 0..32usize {
+        key[i] = i as u8;
+    }
+    let nonce = [0, 0, 0, 0, 0, 0, 0, 0x4a, 0, 0, 0, 0];
+    let mut bytes = *b"Ladies a";
+    check(turn(&key, 1, &nonce, &mut bytes).is_ok())?;
+    check_eq(bytes, [0x6e, 0x2e, 0x35, 0x9a, 0x25, 0x68, 0xf9, 0x80])
+}
+
+#[test]
+fn closed_and_opened() -> Result<(), Fail> {
+    let mut bytes = [5u8; 20];
+    check(close(&[1; 32], 7, b"head", &mut bytes).is_ok())?;
+    check(bytes[0] != 5)?;
+    let closed = bytes;
+    check(open(&[1; 32], 7, b"heap", &mut bytes).is_err())?;
+    check_eq(bytes, closed)?;
+    bytes[19] ^= 1;
+    check(open(&[1; 32], 7, b"head", &mut bytes).is_err())?;
+    bytes[19] ^= 1;
+    check(open(&[1; 32], 7, b"head", &mut bytes).is_ok())?;
+    check_eq([bytes[0], bytes[1], bytes[2], bytes[3]], [5; 4])
+}
+
+#[test]
+fn a_word_keeps_its_kind() -> Result<(), Fail> {
+    let mut word = [3u8; 18];
+    check(close_word(&[1; 32], 0, &[], &mut word).is_ok())?;
+    check(word[0] == 3)?;
+    check(open_word(&[1; 32], 0, &[], &mut word).is_ok())?;
+    check(word[1] == 3)?;
+    let mut short = [3u8; 16];
+    check(close_word(&[1; 32], 0, &[], &mut short).is_err())?;
+    let mut none = [0u8; 0];
+    check(open_word(&[1; 32], 0, &[], &mut none).is_err())
 }
