@@ -74,3 +74,73 @@ fn a_word_keeps_its_kind() -> Result<(), Fail> {
     let mut none = [0u8; 0];
     check(open_word(&[1; 32], 0, &[], &mut none).is_err())
 }
+
+// A record's content, the number of the record before it in the tag; the bytes are those of another implementation.
+#[test]
+fn record_of_a_session() -> Result<(), Fail> {
+    let key = [
+        0x0f,
+        0xe2,
+        0xf6,
+        0x97,
+        0x64,
+        0xdf,
+        0x0a,
+        0x5e,
+        0x6d,
+        0x41,
+        0xd4,
+        0xe8,
+        0x29,
+        0x71,
+        0x6d,
+        0x30,
+        0x90,
+        0x5b,
+        0xbc,
+        0x83,
+        0xca,
+        0xf2,
+        0x8c,
+        0xab,
+        0x68,
+        0x7f,
+        0x30,
+        0x8f,
+        0xb8,
+        0x5d,
+        0x15,
+        0x97,
+    ];
+    let mut bytes = *b"12480 kg................";
+    check(close(&key, 0, &[0; 8], &mut bytes).is_ok())?;
+    check_eq(
+        bytes,
+        [
+            0x00,
+            0xa9,
+            0x37,
+            0xa8,
+            0xf2,
+            0xc4,
+            0xd2,
+            0xdc,
+            0x77,
+            0x44,
+            0x59,
+            0x03,
+            0x64,
+            0x14,
+            0x66,
+            0x8b,
+            0xe9,
+            0x19,
+            0x43,
+            0x6b,
+            0x7c,
+            0xc4,
+            0x15,
+            0xee,
+        ],
+    )
+}
