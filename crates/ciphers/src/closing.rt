@@ -46,26 +46,19 @@ fn same_tag(a: &[u8; 16], b: &[u8]) -> bool
     difference == 0
 }
 
-// Why nothing was closed or opened.
+// Nothing was closed or opened. Why isn't told: no room for a tag, more bytes than one keystream has, or another tag.
 #[derive(Clone, Copy, Debug)]
-pub enum Shut {
-    // there is no room for a tag
-    NoRoom,
-    // more bytes than one keystream has
-    TooLong,
-    // the tag is another
-    OtherTag,
-}
+pub struct Refused;
 
 // The content, which stands before room for its tag, is encrypted in its place and the tag written behind it.
-pub fn close(key: &[u8; 32], n: u64, head: &[u8], bytes: &mut [u8]) -> Result<(), Shut>
+pub fn close(key: &[u8; 32], n: u64, head: &[u8], bytes: &mut [u8]) -> Result<(), Refused>
     ensures { λ r. ⌜ Closing (now (key .entry)) n (now (head .entry)) (now (bytes .entry)) (now (bytes .exit)) (isOk r) ⌝ }
 {
     let Some(end) = bytes.len().checked_sub(16) else {
-        return Err(Shut::NoRoom);
+        return Err(Refused);
     };
     let Ok(()) = turn(key, FIRST_BLOCK, &nonce_of(n), &mut bytes[0..end]) else {
-        return Err(Shut::TooLong);
+        return Err(Refused);
     };
     let tag = tag_of(key, head, &bytes[0..end]);
     bytes[end..].copy_from_slice(&tag);
@@ -73,38 +66,38 @@ pub fn close(key: &[u8; 32], n: u64, head: &[u8], bytes: &mut [u8]) -> Result<()
 }
 
 // What `close` left is looked at and, if its tag is the right one, decrypted in its place; otherwise nothing changes.
-pub fn open(key: &[u8; 32], n: u64, head: &[u8], bytes: &mut [u8]) -> Result<(), Shut>
+pub fn open(key: &[u8; 32], n: u64, head: &[u8], bytes: &mut [u8]) -> Result<(), Refused>
     ensures { λ r. ⌜ Opening (now (key .entry)) n (now (head .entry)) (now (bytes .entry)) (now (bytes .exit)) (isOk r) ⌝ }
 {
     let Some(end) = bytes.len().checked_sub(16) else {
-        return Err(Shut::NoRoom);
+        return Err(Refused);
     };
     let expected = tag_of(key, head, &bytes[0..end]);
     if !same_tag(&expected, &bytes[end..]) {
-        return Err(Shut::OtherTag);
+        return Err(Refused);
     }
     let Ok(()) = turn(key, FIRST_BLOCK, &nonce_of(n), &mut bytes[0..end]) else {
-        return Err(Shut::TooLong);
+        return Err(Refused);
     };
     Ok(())
 }
 
 // What stands behind a word's kind is closed in its place.
-pub fn close_word(key: &[u8; 32], n: u64, head: &[u8], word: &mut [u8]) -> Result<(), Shut>
+pub fn close_word(key: &[u8; 32], n: u64, head: &[u8], word: &mut [u8]) -> Result<(), Refused>
     ensures { λ r. ⌜ Behind-kind (λ before after. Closing (now (key .entry)) n (now (head .entry)) before after (isOk r)) (now (word .entry)) (now (word .exit)) ⌝ }
 {
     if word.is_empty() {
-        return Err(Shut::NoRoom);
+        return Err(Refused);
     }
     close(key, n, head, &mut word[1..])
 }
 
 // What stands behind a word's kind is opened in its place.
-pub fn open_word(key: &[u8; 32], n: u64, head: &[u8], word: &mut [u8]) -> Result<(), Shut>
+pub fn open_word(key: &[u8; 32], n: u64, head: &[u8], word: &mut [u8]) -> Result<(), Refused>
     ensures { λ r. ⌜ Behind-kind (λ before after. Opening (now (key .entry)) n (now (head .entry)) before after (isOk r)) (now (word .entry)) (now (word .exit)) ⌝ }
 {
     if word.is_empty() {
-        return Err(Shut::NoRoom);
+        return Err(Refused);
     }
     open(key, n, head, &mut word[1..])
 }

@@ -1,4 +1,4 @@
-// The block of RFC 8439, section 2.3.2, and where the counter ends.
+// Examples of RFC 8439, where the counter ends, and contents that are closed and opened.
 use crate::chacha20::turn;
 use crate::closing::close;
 use crate::closing::close_word;
@@ -6,6 +6,7 @@ use crate::closing::open;
 use crate::closing::open_word;
 use std::test::*;
 
+// The block of section 2.3.2.
 #[test]
 fn block_of_the_rfc() -> Result<(), Fail> {
     let mut key = [0u8; 32];
