@@ -84,7 +84,7 @@ pub record Only-given-away (w : World Term) : Type 0 where
   pub kept : untaken (w .log) ≡ true → (c : Finished Term) (p : Past (w .log) (caller-ended c)) → Sure (w .log) c p → Gets (heard (w .log)) (c .secret) → Given-away (w .log) c p
   pub unshared : untaken (w .log) ≡ true → (c : Finished Term) (p : Past (w .log) (caller-ended c)) → Sure (w .log) c p → (d : Finished Term) (q : Past (w .log) (caller-ended d)) → d .secret ≡ c .secret → One p q ⊎ Given-away (w .log) c p
 
--- Everybody else, honest third sides too, never has it: who derives it is nobody, and who holds it is one of the two, by this very session.
+-- Everybody else, honest third sides too, never has it: who derives it is nobody, and who holds it is one of the two.
 pub record Nobody-else (w : World Term) (c : Finished Term) : Type 0 where
   pub underivable : Gets (heard (w .log)) (c .secret) → ⊥
   pub holders : (e : Event Term) → Past (w .log) e → (who : ℕ) → held e ≡ Some (record { who = who; secret = c .secret }) → (who ≡ hello-of (c .reply) .caller) ⊎ (who ≡ hello-of (c .reply) .called)
