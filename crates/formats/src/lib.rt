@@ -1,4 +1,6 @@
 // Words as bytes: readers that stop at the first fault, writers, and what holds of both.
+#![tactic(auto)]
+
 pub mod end;
 pub mod hello;
 pub mod laws;

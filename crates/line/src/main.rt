@@ -1,4 +1,6 @@
 // Plays scripts of sides that call each other, from files or standard input, and prints what each call comes to.
+#![tactic(auto)]
+
 use script::played::Played;
 use script::reader::read_line;
 use script::sides::Sides;

@@ -1,5 +1,7 @@
 // Near misses: sides that leave one rule out, and what the network does with them. Each theorem says what breaks then,
 // or, of two rules, that nothing does: those are safeguards.
+#![tactic(auto)]
+
 ghost use Rattle.near_misses.specs.Attacks.{OwnPartsBreak, UnsignedHelloBreaks, UncomparedBreaks, KeepingKeysBreaks, BelievingHellosBreaks, UnsignedSealBreaks, OneKeyBreaks, OfferFirstBreaks, AnsweredFaultsTell, NeverEndingIsNotEnough, BareEndsBreak};
 ghost use Rattle.near_misses.specs.Safeguards.{MarksAreASafeguard, RefusingTheOneIsASafeguard};
 

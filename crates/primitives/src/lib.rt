@@ -1,4 +1,6 @@
 // The group and the signatures as traits, and what is made of them: seals, locks, the keys of records.
+#![tactic(auto)]
+
 pub mod group;
 pub mod locks;
 pub mod seals;

@@ -1,5 +1,7 @@
 // The promise of the protocol: each statement stands on the contract of a function that does nothing,
 // and is proved of every world that the network can reach.
+#![tactic(auto)]
+
 ghost use Rattle.protocol.specs.World.{rules};
 ghost use Rattle.protocol.specs.Symbols.{symbols};
 ghost use Rattle.promise.specs.Promise.{Always, RightKeys, CallerHasPartner, CalledHasPartner, OneEach, EndsByItsWords, Unshared, SecretKept, CalledSecretKept, OnlyGivenAway, NobodyElseHasIt, ChoiceOffered, RefusalIsSilent, TablesHoldTheNewest, UndisturbedEnds, EveryRunKeepsThePromise};

@@ -1,4 +1,6 @@
 // Prints the parts of words, records and settings: in hex, a line each on standard input, or as bytes in files that are named by argument.
+#![tactic(auto)]
+
 use fixed_bytes::fixed::PublicKey;
 use fixed_bytes::secret::{Secret, SecretKey};
 use parts::described::describe;

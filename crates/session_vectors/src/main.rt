@@ -1,4 +1,6 @@
 // Runs the published vectors of ChaCha20 and two worked sessions, and prints of each its name, the value and whether it fits.
+#![tactic(auto)]
+
 mod closings;
 mod encryptions;
 mod hex;

@@ -1,4 +1,6 @@
 // Terms, and what anybody can derive from what was heard. This crate knows nothing of the protocol.
+#![tactic(auto)]
+
 ghost use Rattle.symbolic.specs.Laws.{SameSaysEqual, GroupLaws, HearingMore};
 
 // Terms are told apart by a test.

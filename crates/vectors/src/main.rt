@@ -1,4 +1,6 @@
 // Runs the published vectors of the primitives, and prints of each its name, the value and whether it fits.
+#![tactic(auto)]
+
 mod digests;
 mod hex;
 mod sums;

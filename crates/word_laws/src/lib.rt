@@ -1,4 +1,6 @@
 // Theorems about all kinds of bytes together, and about ends with what is locked in them; each on the contract of a function that does nothing.
+#![tactic(auto)]
+
 ghost use Rattle.word_laws.specs.Laws.{KindsAreApart, LockedEndsAreApart};
 
 // No bytes are read as two kinds.

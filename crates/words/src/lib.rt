@@ -1,4 +1,6 @@
 // What every word of the protocol is made of: ciphers, preferences and the choice, faults, first bytes.
+#![tactic(auto)]
+
 pub mod choice;
 pub mod cipher;
 pub mod fault;

@@ -1,4 +1,6 @@
 // Words, records and settings written as bytes.
+#![tactic(auto)]
+
 pub mod failure;
 pub mod record;
 pub mod settings;
