@@ -7,17 +7,17 @@ pub returns : goal.returns
 returns c =
     let end = c.in-Some.ensures in
     let turned = c.in-Ok.ensures in
-    (c.if-not-opens.ensures.0 refl, opening_done c.args.bytes.now c.in-Some.end end.0 end.1 c.args.key.now.key.bytes c.args.n c.turn-content.new.bytes turned.1)
+    (c.if-not-opens.ensures.0 refl, opening_done c.args.bytes.now c.in-Some.end end.0 end.1 c.args.key.now.key.bytes c.args.n c.turn_content.new.bytes turned.1)
 
 -- what opens has room for a tag
-pub returns-in-default : goal.returns-in-default
-returns-in-default c =
+pub returns-in_default : goal.returns-in_default
+returns-in_default c =
     let room = fits_room c.args.bytes.now (c.if-not-opens.ensures.0 refl).0 in
-    absurd (omega (arith, c.in-default.ensures))
+    absurd (omega (arith, c.in_default.ensures))
 
 -- and the keystream suffices for it
-pub returns-in-default-turn-content : goal.returns-in-default-turn-content
-returns-in-default-turn-content c =
+pub returns-in_default-turn_content : goal.returns-in_default-turn_content
+returns-in_default-turn_content c =
     let end = c.in-Some.ensures in
-    let turned = c.in-default-turn-content.ensures in
+    let turned = c.in_default-turn_content.ensures in
     absurd (false≢true (sym (fits_is c.args.bytes.now c.in-Some.end end.0 end.1 false turned.0) ∙ (c.if-not-opens.ensures.0 refl).0))

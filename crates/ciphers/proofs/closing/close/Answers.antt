@@ -6,10 +6,10 @@ pub returns : goal.returns
 returns c =
     let end = c.in-Some.ensures in
     let turned = c.in-Ok.ensures in
-    (fits_is c.args.bytes.now c.in-Some.end end.0 end.1 true turned.0, closing_done c.args.bytes.now c.in-Some.end end.0 end.1 c.args.key.now c.args.n c.nonce_of.result c.nonce_of.ensures c.turn.new.bytes turned.1 c.args.head.now c.copy-from-slice.new.self (c.copy-from-slice.ensures.after ∙ c.tag-of-tag.ensures))
+    (fits_is c.args.bytes.now c.in-Some.end end.0 end.1 true turned.0, closing_done c.args.bytes.now c.in-Some.end end.0 end.1 c.args.key.now c.args.n c.nonce_of.result c.nonce_of.ensures c.turn.new.bytes turned.1 c.args.head.now c.copy_from_slice.new.self (c.copy_from_slice.ensures.after ∙ c.tag_of-tag.ensures))
 
-pub returns-in-default-turn : goal.returns-in-default-turn
-returns-in-default-turn c =
+pub returns-in_default-turn : goal.returns-in_default-turn
+returns-in_default-turn c =
     let end = c.in-Some.ensures in
-    let turned = c.in-default-turn.ensures in
+    let turned = c.in_default-turn.ensures in
     (fits_is c.args.bytes.now c.in-Some.end end.0 end.1 false turned.0, unchanged c.args.bytes.now c.in-Some.end end.0 end.1 c.turn.new.bytes turned.1)

@@ -6,5 +6,5 @@ pub returns : goal.returns
 returns c =
     let key : List ℕ = c.args.key.now in
     let sum = c.finish-sum.ensures key (([] ++ c.args.head.now) ++ c.args.bytes.now) (c.update-2.ensures key ([] ++ c.args.head.now) (c.update.ensures key [] (c.start.ensures key c.new.ensures))) in
-    let copied = c.copy-from-slice.ensures.after in
+    let copied = c.copy_from_slice.ensures.after in
     copied ∙ ap (take 16) sum

@@ -5,17 +5,17 @@ use Rattle.formats.specs.Views.{as_hello, as_reply}
 use Rattle.formats.proofs.Replies.{faulty_hello, hello_fits, then_answer}
 use Rattle.formats.proofs.reply.read_reply.Goals as goal
 
-pub returns-in-err-hello : goal.returns-in-err-hello
-returns-in-err-hello c =
-    let p = err_from_is_err_and c.from-residual-in-err-hello.result c.from-residual-in-err-hello.ensures.1 in
-    ap (with as_reply) p.1 ∙ (ap Err p.2 ∙ faulty_hello c.args.bytes.now c.in-ok-behind.behind.now c.in-ok-behind.ensures _ c.in-err-hello.ensures)
+pub returns-in_err-hello : goal.returns-in_err-hello
+returns-in_err-hello c =
+    let p = err_from_is_err_and c.from_residual-in_err-hello.result c.from_residual-in_err-hello.ensures.1 in
+    ap (with as_reply) p.1 ∙ (ap Err p.2 ∙ faulty_hello c.args.bytes.now c.in_ok-behind.behind.now c.in_ok-behind.ensures _ c.in_err-hello.ensures)
 
-pub returns-in-default : goal.returns-in-default
-returns-in-default c =
-    let fits = hello_fits c.args.bytes.now c.in-ok-behind.behind.now c.in-ok-behind.ensures (as_hello c.in-ok-hello.hello) c.in-ok-hello.ensures in
-    absurd (omega (arith, fits, c.len.ensures, c.in-default.ensures.cases))
+pub returns-in_default : goal.returns-in_default
+returns-in_default c =
+    let fits = hello_fits c.args.bytes.now c.in_ok-behind.behind.now c.in_ok-behind.ensures (as_hello c.in_ok-hello.hello) c.in_ok-hello.ensures in
+    absurd (omega (arith, fits, c.len.ensures, c.in_default.ensures.cases))
 
 pub returns : goal.returns
 returns c =
-    let at = c.in-Some.ensures.cases.2 ∙ ap (λ n. drop n c.in-ok-behind.behind.now) c.len.ensures in
-    c.read-answer.ensures ∙ sym (then_answer c.args.bytes.now c.in-ok-behind.behind.now c.in-ok-behind.ensures (as_hello c.in-ok-hello.hello) c.in-ok-hello.ensures c.in-Some.rest.now at)
+    let at = c.in-Some.ensures.cases.2 ∙ ap (λ n. drop n c.in_ok-behind.behind.now) c.len.ensures in
+    c.read_answer.ensures ∙ sym (then_answer c.args.bytes.now c.in_ok-behind.behind.now c.in_ok-behind.ensures (as_hello c.in_ok-hello.hello) c.in_ok-hello.ensures c.in-Some.rest.now at)

@@ -14,4 +14,4 @@ loop-block-preserved c =
     ∙ c.loop-block.invariant
 
 pub returns : goal.returns
-returns c = sym (blocks_none c.loop-block.s c.loop-block.rest.now c.in-default.ensures.cases) ∙ c.loop-block.invariant
+returns c = sym (blocks_none c.loop-block.s c.loop-block.rest.now c.in_default.ensures.cases) ∙ c.loop-block.invariant

@@ -9,7 +9,7 @@ loop-cipher-preserved c =
     let indent = c.args.indent.now in
     let name = c.args.name.now in
     let text = string_bytes c.loop-cipher.text in
-    ap (λ t. numbers_on t indent name (numbers (drop (c.loop-cipher.cipher-index + 1) c.args.ciphers.now))) (c.in-ok-text.ensures ∙ ap (number_on text indent name) (c.from.ensures ∙ c.number.ensures))
+    ap (λ t. numbers_on t indent name (numbers (drop (c.loop-cipher.cipher-index + 1) c.args.ciphers.now))) (c.in_ok-text.ensures ∙ ap (number_on text indent name) (c.from.ensures ∙ c.number.ensures))
     ∙ (sym (numbers_next text indent name c.args.ciphers.now c.loop-cipher.cipher-index _ c.loop-cipher-test.true) ∙ c.loop-cipher.invariant)
 
 pub returns : goal.returns

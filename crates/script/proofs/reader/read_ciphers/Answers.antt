@@ -7,25 +7,25 @@ use Rattle.script.proofs.Cutting.{shorter}
 use Rattle.script.proofs.Wishing.{done, no_number, refused, added}
 use Rattle.script.proofs.reader.read_ciphers.Goals as goal
 
-pub returns-in-default-decimal : goal.returns-in-default-decimal
-returns-in-default-decimal c =
-    let none = ap decimal (sym c.next-word-in-loop-rest.ensures.front) ∙ sym c.in-default-decimal.ensures in
+pub returns-in_default-decimal : goal.returns-in_default-decimal
+returns-in_default-decimal c =
+    let none = ap decimal (sym c.next_word-in-loop-rest.ensures.front) ∙ sym c.in_default-decimal.ensures in
     sym (no_number _ _ _ (sym c.loop-rest-test.ensures) none) ∙ c.loop-rest.invariant
 
-pub returns-in-err-add-cipher : goal.returns-in-err-add-cipher
-returns-in-err-add-cipher c =
-    let number = ap decimal (sym c.next-word-in-loop-rest.ensures.front) ∙ sym c.in-Some-decimal.ensures in
-    let is = refused _ _ _ _ (sym c.loop-rest-test.ensures) number c.in-err-add-cipher.ensures.0 in
-    let p = err_from_is_err_and c.from-residual.result c.from-residual.ensures.1 in
+pub returns-in_err-add_cipher : goal.returns-in_err-add_cipher
+returns-in_err-add_cipher c =
+    let number = ap decimal (sym c.next_word-in-loop-rest.ensures.front) ∙ sym c.in-Some-decimal.ensures in
+    let is = refused _ _ _ _ (sym c.loop-rest-test.ensures) number c.in_err-add_cipher.ensures.0 in
+    let p = err_from_is_err_and c.from_residual.result c.from_residual.ensures.1 in
     ap (seen listed) p.1 ∙ (ap Err p.2 ∙ (sym is ∙ c.loop-rest.invariant))
 
 pub loop-rest-smaller : goal.loop-rest-smaller
-loop-rest-smaller c = subst (λ l. length l < length c.loop-rest.rest.now) (sym c.next-word-in-loop-rest.ensures.back) (shorter _ (sym c.loop-rest-test.ensures))
+loop-rest-smaller c = subst (λ l. length l < length c.loop-rest.rest.now) (sym c.next_word-in-loop-rest.ensures.back) (shorter _ (sym c.loop-rest-test.ensures))
 
 pub loop-rest-preserved : goal.loop-rest-preserved
 loop-rest-preserved c =
-    let number = ap decimal (sym c.next-word-in-loop-rest.ensures.front) ∙ sym c.in-Some-decimal.ensures in
-    added _ _ _ _ _ (sym c.loop-rest-test.ensures) number c.in-ok-add-cipher.ensures c.next-word-in-loop-rest.ensures.back ∙ c.loop-rest.invariant
+    let number = ap decimal (sym c.next_word-in-loop-rest.ensures.front) ∙ sym c.in-Some-decimal.ensures in
+    added _ _ _ _ _ (sym c.loop-rest-test.ensures) number c.in_ok-add_cipher.ensures c.next_word-in-loop-rest.ensures.back ∙ c.loop-rest.invariant
 
 pub returns : goal.returns
 returns c = sym (done _ _ _ (sym c.loop-rest-test.ensures)) ∙ c.loop-rest.invariant

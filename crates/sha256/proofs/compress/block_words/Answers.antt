@@ -12,9 +12,9 @@ pub loop-t-preserved : goal.loop-t-preserved
 loop-t-preserved c =
     let h : c.loop-t.t < length c.loop-t.w = omega arith in (
       length-set _ _ _ ∙ c.loop-t.invariant.0,
-      take_more_set c.loop-t.w c.loop-t.t c.word-at.result h
-          ∙ ap (λ ws. ws ++ c.word-at.result ∷ []) c.loop-t.invariant.1
-          ∙ ap (λ v. words c.loop-t.t c.args.block.now ++ v ∷ []) c.word-at.ensures
+      take_more_set c.loop-t.w c.loop-t.t c.word_at.result h
+          ∙ ap (λ ws. ws ++ c.word_at.result ∷ []) c.loop-t.invariant.1
+          ∙ ap (λ v. words c.loop-t.t c.args.block.now ++ v ∷ []) c.word_at.ensures
           ∙ sym (words_more c.loop-t.t c.args.block.now),
     )
 

@@ -5,7 +5,7 @@ use Rattle.sha256.proofs.compress.more_rounds.Given as given
 use Rattle.sha256.proofs.compress.more_rounds.Goals as goal
 
 -- the words that the rounds are by
-unfoldable made : (g : given.Over) → goal.After-one-round-s-16 g → List ℕ
+unfoldable made : (g : given.Over) → goal.After-one_round-s-16 g → List ℕ
 made g c =
     c.following-w0.result
     ∷ c.following-w1.result
@@ -25,7 +25,7 @@ made g c =
     ∷ c.following-w15.result
     ∷ []
 
-made_follow : (g : given.Over) (c : goal.After-one-round-s-16 g) → made g c ≡ slid_by 16 c.args.w.now
+made_follow : (g : given.Over) (c : goal.After-one_round-s-16 g) → made g c ≡ slid_by 16 c.args.w.now
 unfolding made
 made_follow g c =
     following_words c.args.w.now c.told-w
@@ -62,43 +62,43 @@ made_follow g c =
     c.following-w14.ensures
     c.following-w15.ensures
 
-rounds_by_made : (g : given.Over) (c : goal.After-one-round-s-16 g) → c.one-round-s-16.result ≡ rounds c.args.s (sums (take 16 (drop g.row.FROM constants)) (made g c))
+rounds_by_made : (g : given.Over) (c : goal.After-one_round-s-16 g) → c.one_round-s-16.result ≡ rounds c.args.s (sums (take 16 (drop g.row.FROM constants)) (made g c))
 unfolding made constants
 rounds_by_made g c =
     rounds_from g.row.FROM c.requires (made g c) refl
     c.args.s
-    c.one-round-s.result
-    c.one-round-s-2.result
-    c.one-round-s-3.result
-    c.one-round-s-4.result
-    c.one-round-s-5.result
-    c.one-round-s-6.result
-    c.one-round-s-7.result
-    c.one-round-s-8.result
-    c.one-round-s-9.result
-    c.one-round-s-10.result
-    c.one-round-s-11.result
-    c.one-round-s-12.result
-    c.one-round-s-13.result
-    c.one-round-s-14.result
-    c.one-round-s-15.result
-    c.one-round-s-16.result
-    c.one-round-s.ensures
-    c.one-round-s-2.ensures
-    c.one-round-s-3.ensures
-    c.one-round-s-4.ensures
-    c.one-round-s-5.ensures
-    c.one-round-s-6.ensures
-    c.one-round-s-7.ensures
-    c.one-round-s-8.ensures
-    c.one-round-s-9.ensures
-    c.one-round-s-10.ensures
-    c.one-round-s-11.ensures
-    c.one-round-s-12.ensures
-    c.one-round-s-13.ensures
-    c.one-round-s-14.ensures
-    c.one-round-s-15.ensures
-    c.one-round-s-16.ensures
+    c.one_round-s.result
+    c.one_round-s-2.result
+    c.one_round-s-3.result
+    c.one_round-s-4.result
+    c.one_round-s-5.result
+    c.one_round-s-6.result
+    c.one_round-s-7.result
+    c.one_round-s-8.result
+    c.one_round-s-9.result
+    c.one_round-s-10.result
+    c.one_round-s-11.result
+    c.one_round-s-12.result
+    c.one_round-s-13.result
+    c.one_round-s-14.result
+    c.one_round-s-15.result
+    c.one_round-s-16.result
+    c.one_round-s.ensures
+    c.one_round-s-2.ensures
+    c.one_round-s-3.ensures
+    c.one_round-s-4.ensures
+    c.one_round-s-5.ensures
+    c.one_round-s-6.ensures
+    c.one_round-s-7.ensures
+    c.one_round-s-8.ensures
+    c.one_round-s-9.ensures
+    c.one_round-s-10.ensures
+    c.one_round-s-11.ensures
+    c.one_round-s-12.ensures
+    c.one_round-s-13.ensures
+    c.one_round-s-14.ensures
+    c.one_round-s-15.ensures
+    c.one_round-s-16.ensures
 
 pub returns : goal.returns
 unfolding made

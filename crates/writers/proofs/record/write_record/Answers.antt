@@ -5,10 +5,10 @@ use Rattle.writers.proofs.record.write_record.Goals as goal
 
 pub returns : goal.returns
 returns c =
-    let kind = pushed _ c.in-ok-out.ensures.items c.in-ok-push.was c.push.ensures.items in
-    let session = pushed _ kind c.in-ok-extend-from-slice.was c.extend-from-slice.ensures.items in
-    let number = pushed _ session c.in-ok-extend-from-slice-2.was c.extend-from-slice-2.ensures.items in
-    let len = pushed _ number c.in-ok-extend-from-slice-3.was c.extend-from-slice-3.ensures.items in
-    let content = pushed _ len c.in-ok-extend-from-slice-4.was c.extend-from-slice-4.ensures.items in
-    let all = pushed _ content c.in-ok-extend-from-slice-5.was c.extend-from-slice-5.ensures.items in
-    (sym c.if-not-is-sendable.ensures, all ∙ record_joined c.args.session.now c.args.number _ _ _ _ c.args.content.now _ c.byte.ensures c.eight-bytes.ensures c.two-bytes.ensures refl refl)
+    let kind = pushed _ c.in_ok-out.ensures.items c.in_ok-push.was c.push.ensures.items in
+    let session = pushed _ kind c.in_ok-extend_from_slice.was c.extend_from_slice.ensures.items in
+    let number = pushed _ session c.in_ok-extend_from_slice-2.was c.extend_from_slice-2.ensures.items in
+    let len = pushed _ number c.in_ok-extend_from_slice-3.was c.extend_from_slice-3.ensures.items in
+    let content = pushed _ len c.in_ok-extend_from_slice-4.was c.extend_from_slice-4.ensures.items in
+    let all = pushed _ content c.in_ok-extend_from_slice-5.was c.extend_from_slice-5.ensures.items in
+    (sym c.if-not-is_sendable.ensures, all ∙ record_joined c.args.session.now c.args.number _ _ _ _ c.args.content.now _ c.byte.ensures c.eight_bytes.ensures c.two_bytes.ensures refl refl)

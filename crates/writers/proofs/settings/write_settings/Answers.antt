@@ -6,9 +6,9 @@ use Rattle.writers.proofs.settings.write_settings.Goals as goal
 
 pub returns : goal.returns
 returns c =
-    let kind = pushed _ c.new-out.ensures.items c.in-ok-push.was c.push.ensures.items in
-    let own = pushed _ kind c.in-ok-extend-from-slice.was c.extend-from-slice.ensures.items in
-    let list = pushed _ own c.in-ok-extend-from-slice-2.was c.extend-from-slice-2.ensures.items in
-    let halves = pushed _ list c.in-ok-extend-from-slice-3.was c.extend-from-slice-3.ensures.items in
-    let all = pushed _ halves c.in-ok-extend-from-slice-4.was c.extend-from-slice-4.ensures.items in
-    (sym c.if-not-are-sides.ensures, all ∙ settings_joined (record { own = c.args.own; preferences = listed c.args.preferences.now; halves = c.args.halves.now; key = c.args.key.now }) _ _ _ c.byte.ensures c.two-bytes.ensures (c.deref.ensures.value ∙ c.in-ok-list.ensures))
+    let kind = pushed _ c.new-out.ensures.items c.in_ok-push.was c.push.ensures.items in
+    let own = pushed _ kind c.in_ok-extend_from_slice.was c.extend_from_slice.ensures.items in
+    let list = pushed _ own c.in_ok-extend_from_slice-2.was c.extend_from_slice-2.ensures.items in
+    let halves = pushed _ list c.in_ok-extend_from_slice-3.was c.extend_from_slice-3.ensures.items in
+    let all = pushed _ halves c.in_ok-extend_from_slice-4.was c.extend_from_slice-4.ensures.items in
+    (sym c.if-not-are_sides.ensures, all ∙ settings_joined (record { own = c.args.own; preferences = listed c.args.preferences.now; halves = c.args.halves.now; key = c.args.key.now }) _ _ _ c.byte.ensures c.two_bytes.ensures (c.deref.ensures.value ∙ c.in_ok-list.ensures))

@@ -6,10 +6,10 @@ use Rattle.writers.proofs.words.write_hello.Goals as goal
 
 pub returns : goal.returns
 returns c =
-    let kind = pushed _ c.in-ok-out.ensures.items c.in-ok-push.was c.push.ensures.items in
-    let caller = pushed _ kind c.in-ok-extend-from-slice.was c.extend-from-slice.ensures.items in
-    let called = pushed _ caller c.in-ok-extend-from-slice-2.was c.extend-from-slice-2.ensures.items in
-    let offer = pushed _ called c.in-ok-extend-from-slice-3.was c.extend-from-slice-3.ensures.items in
-    let nonce = pushed _ offer c.in-ok-extend-from-slice-4.was c.extend-from-slice-4.ensures.items in
-    pushed _ nonce c.in-ok-extend-from-slice-5.was c.extend-from-slice-5.ensures.items
-    ∙ hello_joined (as_hello c.args.hello.now) _ _ _ _ _ _ c.byte.ensures c.two-bytes.ensures c.two-bytes-2.ensures (c.deref.ensures.value ∙ c.in-ok-offer.ensures) c.bytes.ensures c.bytes-2.ensures
+    let kind = pushed _ c.in_ok-out.ensures.items c.in_ok-push.was c.push.ensures.items in
+    let caller = pushed _ kind c.in_ok-extend_from_slice.was c.extend_from_slice.ensures.items in
+    let called = pushed _ caller c.in_ok-extend_from_slice-2.was c.extend_from_slice-2.ensures.items in
+    let offer = pushed _ called c.in_ok-extend_from_slice-3.was c.extend_from_slice-3.ensures.items in
+    let nonce = pushed _ offer c.in_ok-extend_from_slice-4.was c.extend_from_slice-4.ensures.items in
+    pushed _ nonce c.in_ok-extend_from_slice-5.was c.extend_from_slice-5.ensures.items
+    ∙ hello_joined (as_hello c.args.hello.now) _ _ _ _ _ _ c.byte.ensures c.two_bytes.ensures c.two_bytes-2.ensures (c.deref.ensures.value ∙ c.in_ok-offer.ensures) c.bytes.ensures c.bytes-2.ensures

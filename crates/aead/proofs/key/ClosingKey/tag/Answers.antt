@@ -9,4 +9,4 @@ returns c =
     let key : List ℕ = c.args.self.now.key.bytes in
     let head : List ℕ = c.args.head.now in
     ∥∥₁_elim c.args.self.now.kept (≡_prop (coded_list coded_ℕ) _ _)
-    (λ keyed. c.copy-from-slice.ensures.after ∙ ap (take 16) (c.finish-sum.ensures key (([] ++ head) ++ c.args.bytes.now) (c.update-2.ensures key ([] ++ head) (c.update.ensures key [] (c.start.ensures key keyed)))))
+    (λ keyed. c.copy_from_slice.ensures.after ∙ ap (take 16) (c.finish-sum.ensures key (([] ++ head) ++ c.args.bytes.now) (c.update-2.ensures key ([] ++ head) (c.update.ensures key [] (c.start.ensures key keyed)))))

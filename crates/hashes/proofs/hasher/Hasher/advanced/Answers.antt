@@ -5,6 +5,6 @@ use Rattle.hashes.proofs.hasher.Hasher.advanced.Goals as goal
 pub returns : goal.returns
 returns c =
     record {
-      holds = λ m held. holds_advanced c.args.self m c.args.bytes.now c.compress-blocks.result _ c.requires.0 c.requires.1 c.compress-blocks.ensures refl held;
+      holds = λ m held. holds_advanced c.args.self m c.args.bytes.now c.compress_blocks.result _ c.requires.0 c.requires.1 c.compress_blocks.ensures refl held;
       whole = omega arith;
     }

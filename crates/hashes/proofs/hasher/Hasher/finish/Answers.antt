@@ -4,4 +4,4 @@ use Rattle.hashes.proofs.hasher.Hasher.finish.Goals as goal
 
 pub returns : goal.returns
 unfolding sha256
-returns c m held = c.output.ensures ∙ ap state_bytes (c.last-state.ensures m held)
+returns c m held = c.output.ensures ∙ ap state_bytes (c.last_state.ensures m held)

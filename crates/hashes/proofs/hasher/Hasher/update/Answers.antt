@@ -3,5 +3,5 @@ use Rattle.hashes.proofs.hasher.Hasher.update.Goals as goal
 
 pub returns-else-bytes-room : goal.returns-else-bytes-room
 returns-else-bytes-room c m held =
-    holds_both c.from-boundary-else-bytes-room.result m _ _ c.args.bytes.now c.split-at.ensures.by_index.0
-    (c.from-boundary-else-bytes-room.ensures _ (c.completed.ensures.holds m held))
+    holds_both c.from_boundary-else-bytes-room.result m _ _ c.args.bytes.now c.split_at.ensures.by_index.0
+    (c.from_boundary-else-bytes-room.ensures _ (c.completed.ensures.holds m held))

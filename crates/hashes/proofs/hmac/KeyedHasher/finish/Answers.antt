@@ -6,4 +6,4 @@ pub returns : goal.returns
 returns c key m held =
     summed key m c.finish-inner.result c.finish.result
     (c.finish-inner.ensures _ held.inner)
-    (c.finish.ensures _ (c.update.ensures _ (c.after-block.ensures (outer_pad key) (length_pad 0x5c key) held.outer)))
+    (c.finish.ensures _ (c.update.ensures _ (c.after_block.ensures (outer_pad key) (length_pad 0x5c key) held.outer)))

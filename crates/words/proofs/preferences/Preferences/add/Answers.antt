@@ -2,15 +2,15 @@ use Rattle.std.proofs.Common.{◌<◌, length, sym, ◌∙◌, arith, length-set
 use Rattle.words.proofs.Listing.{has_room, grown_array, stored}
 use Rattle.words.proofs.preferences.Preferences.add.Goals as goal
 
-pub invariant-of-self : goal.invariant-of-self
-invariant-of-self c =
+pub invariant_of-self : goal.invariant_of-self
+invariant_of-self c =
     let p = c.args.self.now in
-    let can = sym c.in-ok-admits.ensures in
+    let can = sym c.in_ok-admits.ensures in
     let room : p.count < length p.ciphers = has_room p.ciphers p.count c.args.cipher p.whole p.few can in
     (length-set _ _ _ ∙ p.whole, (omega (arith, p.whole), (grown_array _ _ _ room p.sound can, tt)))
 
 pub returns : goal.returns
 returns c =
     let p = c.args.self.now in
-    let can = sym c.in-ok-admits.ensures in
+    let can = sym c.in_ok-admits.ensures in
     (can, stored _ _ _ (has_room p.ciphers p.count c.args.cipher p.whole p.few can))

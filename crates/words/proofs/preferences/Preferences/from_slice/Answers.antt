@@ -8,9 +8,9 @@ use Rattle.words.specs.Listed.{made}
 use Rattle.words.proofs.Listing.{told, none_taken, many_taken, begins, added, stops, ends}
 use Rattle.words.proofs.preferences.Preferences.from_slice.Goals as goal
 
-pub returns-in-default : goal.returns-in-default
-returns-in-default c =
-    let is = sym (none_taken c.args.ciphers.now c.in-default.ensures.cases) in
+pub returns-in_default : goal.returns-in_default
+returns-in_default c =
+    let is = sym (none_taken c.args.ciphers.now c.in_default.ensures.cases) in
     record { value = is; exact = told (numbers c.args.ciphers.now) (Err NoCipher) is }
 
 pub returns-then-not-fits : goal.returns-then-not-fits
@@ -21,16 +21,16 @@ returns-then-not-fits c =
 pub loop-cipher-init : goal.loop-cipher-init
 loop-cipher-init c = begins _ _ _ _ c.in-Some.ensures.cases.0 c.only-preferences.ensures
 
-pub returns-in-err-add : goal.returns-in-err-add
-returns-in-err-add c =
+pub returns-in_err-add : goal.returns-in_err-add
+returns-in_err-add c =
     let few = leb-true (length c.args.ciphers.now) 16 (sym c.if-not-fits.ensures) in
-    let bad = stops _ (numbers c.args.ciphers.now) _ _ _ _ c.loop-cipher-test.true c.loop-cipher.invariant (omega (arith, length-map c.args.ciphers.now (λ x. x.number))) c.in-err-add.ensures.0 in
-    let p = err_from_is_err_and c.from-residual.result c.from-residual.ensures.1 in
+    let bad = stops _ (numbers c.args.ciphers.now) _ _ _ _ c.loop-cipher-test.true c.loop-cipher.invariant (omega (arith, length-map c.args.ciphers.now (λ x. x.number))) c.in_err-add.ensures.0 in
+    let p = err_from_is_err_and c.from_residual.result c.from_residual.ensures.1 in
     let is = ap made p.1 ∙ (ap Err p.2 ∙ sym bad) in
-    record { value = is; exact = told (numbers c.args.ciphers.now) c.from-residual.result is }
+    record { value = is; exact = told (numbers c.args.ciphers.now) c.from_residual.result is }
 
 pub loop-cipher-preserved : goal.loop-cipher-preserved
-loop-cipher-preserved c = added _ _ _ _ _ _ c.loop-cipher-test.true c.loop-cipher.invariant c.in-ok-add.ensures.1
+loop-cipher-preserved c = added _ _ _ _ _ _ c.loop-cipher-test.true c.loop-cipher.invariant c.in_ok-add.ensures.1
 
 pub returns : goal.returns
 returns c =
