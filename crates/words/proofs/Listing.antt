@@ -1,11 +1,10 @@
 -- Lists of ciphers that grow at their end: what is taken, and which fault refuses them. Assumes nothing.
-use Rattle.std.proofs.Common.{◌≡◌, ℕ, ◌+◌, ◌-◌, ◌<◌, ◌≤◌, Bool, true, false, cond, not, ◌&&◌, eqb, ltb, leb, List, [], ◌∷◌, ◌++◌, length, get_or, take, drop, set, is_ok, Ok, Err, Decides, Result, sym, refl, ap, ◌∙◌, subst, ⊎_elim, append_assoc, arith, length-append}
+use Rattle.std.proofs.Common.{◌≡◌, ℕ, ◌+◌, ◌<◌, ◌≤◌, Bool, true, false, cond, not, ◌&&◌, ◌||◌, nat_eq, eqb, ltb, leb, List, [], ◌∷◌, ◌++◌, length, get_or, take, drop, set, is_ok, Ok, Err, Result, sym, refl, ap, ◌∙◌, subst, ⊎_elim, append_assoc, arith, length-append}
 use lib.ListN.{length-map}
-use Rattle.std.specs.List.{IsAnyAnswer}
-use Rattle.std.proofs.lemmas.List.Elements.{contains_decides}
+use Rattle.std.specs.List.{list_any}
+use Rattle.std.proofs.lemmas.Bool.Decides.{nat_tests}
 use Rattle.std.proofs.lemmas.List.{append-nil, drop_all, drop_more, length_push, length-take-le, take_more_set, map_push}
 use Rattle.std.proofs.lemmas.Bool.{both_ways, cases_Bool, cond-true, cond-false, or_cases, or_parts, or_from, or_left, or_right, and_parts, and_from, and_left, and_right, and_cases, not_from_true, not_from_false, not-true, not-false, eqb-true, eq-eqb, ne_eqb, eqb-false, leb-true, leb-false, le-leb, le-ltb, lt-ltb, ltb-true, ltb-false}
-use Rattle.std.proofs.lemmas.Bool.Decides.{same_from_decides, Decides-by_or, nat_tests, Decides-eqb}
 use Rattle.words.specs.declared.cipher.Cipher.{Cipher}
 use Rattle.words.specs.declared.fault.Fault.{Fault}
 use Rattle.words.specs.declared.fault.Fault.TheVariants.{NoCipher, TooManyCiphers, CipherTwice}
@@ -15,12 +14,10 @@ use Rattle.words.specs.Ciphers.{numbers}
 use Rattle.words.specs.Listed.{taken, made, addable}
 
 -- what the search of a slice says is what the list of numbers holds
-pub contained : (cs : List Cipher) (c : Cipher) (r : Bool) → IsAnyAnswer (λ y t. Decides t (y ≡ c)) cs r → r ≡ holds (numbers cs) c.number
+pub contained : (cs : List Cipher) (c : Cipher) → list_any (λ y. nat_eq y.number c.number) cs ≡ holds (numbers cs) c.number
 unfolding holds
-contained cs c r h = same_from_decides r _ (contains_decides eqb Decides-eqb cs c r h)
-    (Decides-by_or (λ x. eqb x.number c.number) (λ x. x ≡ c) (λ xs. holds (numbers xs) c.number)
-    (λ x. (λ e. ap (λ n. record { number = n }) (eqb-true _ _ e), λ e. eq-eqb _ _ (ap (λ y. y.number) e)))
-    refl (λ _ _. refl) cs)
+contained [] c = refl
+contained (x ∷ cs) c = ap (λ b. eqb x.number c.number || b) (contained cs c)
 
 pub one_distinct : (c : ℕ) → distinct (c ∷ []) ≡ true
 unfolding distinct holds

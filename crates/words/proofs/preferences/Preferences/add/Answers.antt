@@ -7,7 +7,7 @@ invariant_of-self c =
     let p = c.args.self.now in
     let can = sym c.in_ok-admits.ensures in
     let room : p.count < length p.ciphers = has_room p.ciphers p.count c.args.cipher p.whole p.few can in
-    (length-set _ _ _ ∙ p.whole, (omega (arith, p.whole), (grown_array _ _ _ room p.sound can, tt)))
+    record { whole = length-set _ _ _ ∙ p.whole; few = omega (arith, p.whole); sound = grown_array _ _ _ room p.sound can }
 
 pub returns : goal.returns
 returns c =

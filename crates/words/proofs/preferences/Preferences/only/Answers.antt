@@ -3,4 +3,4 @@ use Rattle.words.proofs.Listing.{one_distinct}
 use Rattle.words.proofs.preferences.Preferences.only.Goals as goal
 
 pub invariant_of-result : goal.invariant_of-result
-invariant_of-result c = (refl, (lit≤ tt, (one_distinct c.args.cipher.number, tt)))
+invariant_of-result c = record { whole = refl; few = lit≤ tt; sound = one_distinct c.args.cipher.number }

@@ -1,5 +1,6 @@
+use Rattle.std.proofs.Common.{◌∙◌}
 use Rattle.words.proofs.Listing.{contained}
 use Rattle.words.proofs.preferences.methods.is_among.Goals as goal
 
 pub returns : goal.returns
-returns c = contained c.args.ciphers.now c.args.cipher c.contains.result c.contains.ensures.cases
+returns c = c.contains.ensures.value ∙ contained c.args.ciphers.now c.args.cipher
