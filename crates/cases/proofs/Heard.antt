@@ -1,5 +1,5 @@
 -- Worlds that are computed: all that they are computed with, what stands where, and what was heard. Assumes nothing.
-use Rattle.std.proofs.Common.{◌≡◌, ℕ, zero, suc, List, [], ◌∷◌, ◌++◌, drop, Some, sym, refl}
+use Rattle.std.proofs.Common.{◌≡◌, ℕ, zero, suc, List, [], ◌∷◌, drop, Some, sym, refl}
 use mathlib.Core.List.Memᴰ
 use Rattle.words.specs.Registry.{kind_hello, mark_reply}
 use Rattle.words.specs.Choice.{holds, distinct, choose}
@@ -8,7 +8,7 @@ use Rattle.symbolic.specs.Term.{Term, Number, Listed, Secret, Element, Both, Mac
 use Rattle.symbolic.specs.Derivable.{Gets, by_ear, generator, both, left, right, untag, raise, mac, unclose}
 use Rattle.protocol.specs.Lists.{nth, put, seek, without, newest}
 use Rattle.protocol.specs.Got.{bind, guard, need}
-use Rattle.protocol.specs.Words.{Hello, Body, Reply}
+use Rattle.protocol.specs.Words.{Hello, Reply}
 use Rattle.protocol.specs.Event.{Entry, heard}
 use Rattle.protocol.specs.Step.{call, take_hello, take_reply, take_end}
 use Rattle.protocol.specs.World.{handle, settled, ordered, acted, play, plays}

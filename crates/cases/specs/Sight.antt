@@ -2,7 +2,7 @@
 use Rattle.std.specs.Prelude.{ℕ, Bool, List, [], ◌∷◌, map}
 use Rattle.symbolic.specs.Term.{Term}
 use Rattle.protocol.specs.Side.{Side}
-use Rattle.protocol.specs.Event.{Event, begun, answered, caller_ended, called_ended, stolen, taken, told, drew, spoke, Entry}
+use Rattle.protocol.specs.Event.{Event, begun, answered, caller_ended, called_ended, stolen, taken, told, drew, spoke}
 use Rattle.protocol.specs.World.{World}
 use Rattle.promise.specs.Run.{Log, safe}
 

@@ -1,5 +1,5 @@
 -- The table of cases: scripts of what the network does, and what is then seen. Assumes nothing.
-use Rattle.std.specs.Prelude.{◌≡◌, ℕ, Bool, true, false, List, [], ◌∷◌, ◌++◌, replicate, slice_set}
+use Rattle.std.specs.Prelude.{◌≡◌, ℕ, true, false, List, [], ◌∷◌, ◌++◌, replicate, slice_set}
 use mathlib.Core.List.{Memᴰ}
 use Rattle.symbolic.specs.Key.{own, made}
 use Rattle.symbolic.specs.Term.{Term, Raw, Fresh, Secret, Element}

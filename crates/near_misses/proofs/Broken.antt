@@ -7,7 +7,7 @@ use Rattle.symbolic.specs.Term.{Term, Fresh, Secret, Sign, Both, same}
 use Rattle.symbolic.specs.Derivable.{Gets, raw, number, listed, both, tag, signed, mac, close}
 use Rattle.symbolic.proofs.Terms.{is_same}
 use Rattle.protocol.specs.Words.{Hello, Reply, an_end}
-use Rattle.protocol.specs.Event.{Begun, Answered, Finished, Event, begun, answered, caller_ended, called_ended, stolen, taken, told, drew, spoke, Entry}
+use Rattle.protocol.specs.Event.{Answered, Finished, Event, begun, answered, caller_ended, called_ended, stolen, taken, told, drew, spoke}
 use Rattle.protocol.specs.Algebra.{locked}
 use Rattle.protocol.specs.Symbols.{symbols, hello_term, reply_term, word_term, start}
 use Rattle.promise.specs.Run.{Log, never}

@@ -1,11 +1,11 @@
 -- A side that answers faults tells what it did, and one that never ends keeps little. Assumes nothing.
-use Rattle.std.proofs.Common.{◌≡◌, ℕ, suc, Bool, true, not, ◌||◌, eqb, List, [], ◌∷◌, ◌++◌, length, Some, None, Option, sym, refl, ap, ◌∙◌, subst, arith}
+use Rattle.std.proofs.Common.{◌≡◌, ℕ, Bool, true, not, ◌||◌, eqb, List, [], ◌∷◌, ◌++◌, length, Some, None, Option, sym, refl, ap, ◌∙◌, subst, arith}
 use Rattle.std.proofs.lemmas.Bool.{and_from, and_parts}
 use Rattle.words.specs.Choice.{choose}
 use Rattle.words.specs.Numbers.{wrong_side, nothing_in_common, common_one}
 use Rattle.symbolic.specs.Term.{Term, Number, One, same}
-use Rattle.symbolic.specs.Derivable.{Gets, raw, number, listed, one, both, tag}
-use Rattle.protocol.specs.Got.{Got, No, Yes, bind, guard, need}
+use Rattle.symbolic.specs.Derivable.{raw, number, listed, one, both, tag}
+use Rattle.protocol.specs.Got.{Got, No, Yes, bind}
 use Rattle.protocol.specs.Side.{Side}
 use Rattle.protocol.specs.Event.{Finished, Held, Event, caller_ended, called_ended, spoke, Entry, held}
 use Rattle.protocol.specs.Step.{Reaction, begin_call, call, give_answer, take_hello}
@@ -16,13 +16,13 @@ use Rattle.protocol.specs.Lists.{nth}
 use Rattle.protocol.specs.Symbols.{symbols, fresh, hello_term, new_keys, new_side, start}
 use Rattle.protocol.proofs.Steps.{yes_same, no_yes, by_bind, by_guard, by_need}
 use Rattle.promise.specs.Run.{Log, Past, never, Reach, begin, more}
-use Rattle.promise.specs.Promise.{BothEnded, undisturbed}
+use Rattle.promise.specs.Promise.{undisturbed}
 use Rattle.promise.proofs.Events.{kind}
 use Rattle.promise.proofs.Logs.{never_was}
 use Rattle.cases.specs.Table.{opposite}
 use Rattle.cases.proofs.Heard.{playing}
-use Rattle.near_misses.specs.Weak.{never_ends, answers_faults}
-use Rattle.near_misses.specs.Scripts.{prying_hello, prefers_one, prefers_two}
+use Rattle.near_misses.specs.Weak.{never_ends}
+use Rattle.near_misses.specs.Scripts.{prying_hello, prefers_one}
 use Rattle.near_misses.specs.Attacks.{AnsweredFaultsTell, NeverEndingIsNotEnough}
 
 numbers_apart : Number 1 8 ∷ [] ≡ Number 1 3 ∷ [] → ⊥

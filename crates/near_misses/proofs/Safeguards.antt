@@ -7,12 +7,11 @@ use Rattle.symbolic.proofs.Terms.{same_is}
 use Rattle.symbolic.proofs.Public.{Released, Ok, ok_left, ok_right, ok_untag}
 use Rattle.symbolic.proofs.Public as public
 use Rattle.protocol.specs.Words.{Body, Reply}
-use Rattle.protocol.specs.Symbols.{reply_term, by_key, key_seen, primitives}
+use Rattle.protocol.specs.Symbols.{reply_term, by_key, key_seen}
 use Rattle.protocol.proofs.Apart.{body_same, claims_same, marks_apart}
-use Rattle.promise.proofs.Variants.{Laws}
 use Rattle.promise.proofs.Promised.{promised_in}
 use Rattle.near_misses.specs.Weak.{unmarked}
-use Rattle.near_misses.specs.Safeguards.{StillPromised, without_marks, MarksAreASafeguard, without_refusing, RefusingTheOneIsASafeguard}
+use Rattle.near_misses.specs.Safeguards.{without_marks, MarksAreASafeguard, without_refusing, RefusingTheOneIsASafeguard}
 
 -- what is signed of a reply without its mark still determines it
 unmarked_same : (x y : Body Term) → unmarked x ≡ unmarked y → x ≡ y

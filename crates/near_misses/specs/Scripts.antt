@@ -3,11 +3,11 @@ use Rattle.std.specs.Prelude.{ℕ, List, [], ◌∷◌, ◌++◌}
 use Rattle.symbolic.specs.Key.{own, made}
 use Rattle.symbolic.specs.Term.{Term, Raw, Fresh, Secret, One, Element, Sign, Both}
 use Rattle.protocol.specs.Words.{Hello, Body, Reply, an_end}
-use Rattle.protocol.specs.Algebra.{Algebra, sealed, locked}
+use Rattle.protocol.specs.Algebra.{sealed, locked}
 use Rattle.protocol.specs.Step.{new_body, new_reply}
 use Rattle.protocol.specs.World.{Command, Call, Deliver, Take, Draw}
 use Rattle.protocol.specs.Symbols.{symbols, primitives, claim_term, fresh, word_term}
-use Rattle.cases.specs.Table.{hello, reply, end, say_hello, say_reply, opposite, first_hello, first_reply, struck_hello, undisturbed_script}
+use Rattle.cases.specs.Table.{reply, end, say_hello, say_reply, opposite, first_hello, struck_hello, undisturbed_script}
 use Rattle.near_misses.specs.Weak.{part_of_called, part_of_caller, before_the_seal, unmarked}
 
 -- the reply of b to a hello with a choice when t things have happened, where its signature is over another part

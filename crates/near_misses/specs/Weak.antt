@@ -1,5 +1,5 @@
 -- Sides that leave one rule out. Each is the rules with one thing changed. Assumes nothing.
-use Rattle.std.specs.Prelude.{ℕ, Bool, true, not, List, [], ◌∷◌, map, Some, None, Option, ◌==◌}
+use Rattle.std.specs.Prelude.{ℕ, true, not, List, [], ◌∷◌, map, Some, None, Option, ◌==◌}
 use Rattle.words.specs.Numbers.{wrong_side, nothing_in_common, no_such_call, bad_signature, not_offered, seal_shut, common_one, no_such_session, other_reply}
 use Rattle.words.specs.Registry.{mark_reply}
 use Rattle.words.specs.Choice.{holds, choose}
@@ -8,7 +8,7 @@ use Rattle.protocol.specs.Lists.{nth, seek}
 use Rattle.protocol.specs.Got.{Got, No, Yes, bind, guard, need}
 use Rattle.protocol.specs.Words.{Hello, Body, Reply, an_end}
 use Rattle.protocol.specs.Algebra.{unsealed, locked, unlocked}
-use Rattle.protocol.specs.Side.{Call, Answer, Side, with_calls, counted}
+use Rattle.protocol.specs.Side.{Call, Side, with_calls, counted}
 use Rattle.protocol.specs.Event.{Finished, Event, begun, answered, caller_ended, called_ended, stolen, taken, told, drew, spoke, Entry}
 use Rattle.protocol.specs.Step.{Draws, Reaction, new_body, new_reply, call, give_answer, take_hello, end_call, take_reply, opens, end_answer, take_end, refuse}
 use Rattle.protocol.specs.World.{Handlers, rules}

@@ -1,9 +1,9 @@
 -- A call fits the log. Assumes nothing.
-use Rattle.std.proofs.Common.{◌≡◌, ℕ, suc, ◌⊎◌, List, [], ◌∷◌, ◌++◌, length, Some, sym, refl, ap, ◌∙◌, subst, inl, inr, arith}
+use Rattle.std.proofs.Common.{◌≡◌, ℕ, ◌⊎◌, List, [], ◌∷◌, ◌++◌, length, Some, sym, refl, ap, ◌∙◌, subst, inl, inr, arith}
 use Rattle.words.specs.Numbers.{wrong_side}
 use Rattle.symbolic.specs.Key.{Key, made, insert}
 use Rattle.symbolic.specs.Term.{Term, Secret, seen, rise}
-use Rattle.protocol.specs.Lists.{nth, kept}
+use Rattle.protocol.specs.Lists.{nth}
 use Rattle.protocol.specs.Got.{Yes}
 use Rattle.protocol.specs.Words.{Hello}
 use Rattle.protocol.specs.Side.{Call, Side, most_calls}
@@ -12,15 +12,15 @@ use Rattle.protocol.specs.Step.{Reaction, new_hello, begin_call, call}
 use Rattle.protocol.specs.Symbols.{fresh, hello_term, by_key, key_seen, Variant, primitives}
 use Rattle.protocol.proofs.Steps.{yes_same, by_need}
 use Rattle.protocol.proofs.Tables.{newest_bounded}
-use Rattle.protocol.proofs.Rows.{Rows, rows_map, rows_append, rows_newest, rows_high}
-use Rattle.promise.specs.Run.{Log, At, Past}
+use Rattle.protocol.proofs.Rows.{Rows, rows_map, rows_append, rows_newest}
+use Rattle.promise.specs.Run.{Log, Past}
 use Rattle.promise.specs.Session.{hello_of}
 use Rattle.promise.proofs.Events.{other_kind}
 use Rattle.promise.proofs.Logs.{later, now_past, now_or_before, at_shorter}
 use Rattle.promise.proofs.Released.{CallMade, half_of, Justified, Fair}
 use Rattle.promise.proofs.Fair.{the_call, the_caller_end}
 use Rattle.promise.proofs.Shapes.{fresh_time}
-use Rattle.promise.proofs.Sound.{CallRow, Seat, Sound, key_is, call_row_grows, grow_calls, grow_answers, grow_ended, OfSide, Fits, spoken}
+use Rattle.promise.proofs.Sound.{CallRow, Sound, key_is, call_row_grows, grow_answers, grow_ended, Fits, spoken}
 
 -- a call with a nonce of this moment was not ended before
 pub new_unended : {v : Variant} {log : Log} → Fair v log → (h : Hello Term) → h.nonce ≡ (fresh (length log)).value 0 → (f : Finished Term) → Past log (caller_ended f) → hello_of f.reply ≡ h → ⊥

@@ -1,26 +1,26 @@
 -- A called side that takes a public end fits the log. Assumes nothing.
-use Rattle.std.proofs.Common.{◌≡◌, ℕ, suc, ◌≤◌, Bool, true, false, not, ◌⊎◌, List, [], ◌∷◌, ◌++◌, length, is_some as option_is_some, Some, None, Option, sym, refl, ap, ◌∙◌, subst, inl, inr, le_trans, arith}
+use Rattle.std.proofs.Common.{◌≡◌, ℕ, true, false, List, [], ◌∷◌, ◌++◌, is_some as option_is_some, Some, None, Option, sym, refl, ap, ◌∙◌, subst, le_trans}
 use mathlib.Core.List.{Memᴰ}
 use Rattle.std.proofs.lemmas.Bool.{false≢true}
 use Rattle.words.specs.Numbers.{bad_signature, no_such_session, other_reply}
 use Rattle.words.specs.Registry.{derive_lock}
 use Rattle.symbolic.specs.Key.{Key, own}
-use Rattle.symbolic.specs.Term.{Term, Number, Public, Sign, Mac, Both, Close, same, seen}
+use Rattle.symbolic.specs.Term.{Term, Number, Public, Sign, Mac, Both, Close, same}
 use Rattle.symbolic.proofs.Terms.{same_is}
 use Rattle.symbolic.proofs.Public.{Ok}
 use Rattle.protocol.specs.Lists.{seek, without}
 use Rattle.protocol.specs.Got.{Yes}
-use Rattle.protocol.specs.Words.{Hello, Reply}
+use Rattle.protocol.specs.Words.{Reply}
 use Rattle.protocol.specs.Algebra.{unlocked, lock_key}
 use Rattle.protocol.specs.Side.{Answer, Side, most_ended}
-use Rattle.protocol.specs.Event.{Answered, Finished, answered, caller_ended, called_ended, Entry}
+use Rattle.protocol.specs.Event.{Answered, Finished, caller_ended, called_ended, Entry}
 use Rattle.protocol.specs.Step.{Reaction, opens, end_answer, take_end, new_session}
-use Rattle.protocol.specs.Symbols.{reply_term, nothing, front_seen, rear_seen, Variant, primitives}
+use Rattle.protocol.specs.Symbols.{reply_term, nothing, Variant, primitives}
 use Rattle.protocol.proofs.Steps.{yes_same, by_guard, by_need}
 use Rattle.protocol.proofs.Reading.{verified_is, unclosed_is, content_is}
 use Rattle.protocol.proofs.Tables.{seek_found, newest_bounded, without_shorter}
-use Rattle.protocol.proofs.Rows.{Rows, rows_of, rows_without, rows_once}
-use Rattle.promise.specs.Run.{Log, Past}
+use Rattle.protocol.proofs.Rows.{rows_of, rows_without, rows_once}
+use Rattle.promise.specs.Run.{Log}
 use Rattle.promise.specs.Session.{hello_of, session_of}
 use Rattle.promise.proofs.Events.{other_kind, called_same}
 use Rattle.promise.proofs.Logs.{now_past}

@@ -1,5 +1,5 @@
 -- Events are told apart by their kind, and by what they are about. Assumes nothing.
-use Rattle.std.proofs.Common.{◌≡◌, ℕ, false, eqb, sym, ap, ◌∙◌}
+use Rattle.std.proofs.Common.{◌≡◌, ℕ, false, eqb, ap}
 use Rattle.std.proofs.lemmas.Bool.{eqb-false}
 use Rattle.symbolic.specs.Term.{Term}
 use Rattle.protocol.specs.Event.{Begun, Answered, Finished, Event, begun, answered, caller_ended, called_ended, stolen, taken, told, drew, spoke}

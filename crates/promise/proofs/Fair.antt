@@ -1,20 +1,20 @@
 -- In a fair log everything that was heard is public, by the families of what sides have released. Assumes nothing.
-use Rattle.std.proofs.Common.{◌≡◌, ℕ, ◌⊎◌, List, [], ◌∷◌, ◌++◌, length, Some, None, sym, refl, ap, ◌∙◌, subst, inl, inr, arith}
+use Rattle.std.proofs.Common.{◌≡◌, ℕ, ◌⊎◌, List, [], ◌∷◌, length, Some, None, sym, refl, ap, ◌∙◌, subst, inl, inr, arith}
 use mathlib.Core.List.Memᴰ
 use mathlib.Core.List.{Memᴰ}
-use Rattle.words.specs.Registry.{kind_end, derive_lock}
-use Rattle.symbolic.specs.Key.{Key, key, own, made, plain, insert}
-use Rattle.symbolic.specs.Term.{Term, Number, Fresh, Secret, Public, One, Element, Sign, Mac, Close, Both, Tag, rise}
+use Rattle.words.specs.Registry.{derive_lock}
+use Rattle.symbolic.specs.Key.{Key, own, made, insert}
+use Rattle.symbolic.specs.Term.{Term, Number, Fresh, Secret, One, Element, Mac, Both, rise}
 use Rattle.symbolic.specs.Derivable.{Gets}
 use Rattle.symbolic.proofs.Public as public
 use Rattle.symbolic.proofs.Public.{Ok, Few, but, Lawful, stays, ok_left, ok_right, ok_untag, ok_mac_key, raised_by_unknown, derives}
 use Rattle.protocol.specs.Words.{Reply}
 use Rattle.protocol.specs.Event.{Begun, Answered, Finished, Theft, Told, Held, held, Event, begun, answered, caller_ended, called_ended, stolen, taken, told, drew, spoke, Entry, heard}
-use Rattle.protocol.specs.Symbols.{hello_term, body_term, reply_term, nothing, Variant}
+use Rattle.protocol.specs.Symbols.{body_term, reply_term, nothing, Variant}
 use Rattle.promise.proofs.Variants.{Laws}
-use Rattle.promise.specs.Run.{Log, At, here, there, Past}
+use Rattle.promise.specs.Run.{Log, At, here, Past}
 use Rattle.promise.specs.Session.{hello_of}
-use Rattle.promise.proofs.Logs.{later, next, now_past, at_before, newest_at}
+use Rattle.promise.proofs.Logs.{later, at_before, newest_at}
 use Rattle.promise.proofs.Shapes.{key_kind, key_index, secret_key, close_key, close_content, mac_content, pair_number}
 use Rattle.promise.proofs.Released as released
 use Rattle.promise.proofs.Released.{Known, Given, Signed, Closed, released_grows, end_signature, lock_of, sealing_key, half_of, CallMade, AnswerMade, CallerEnd, CalledEnd, TheftDone, OpenCall, KeysTaken, SecretTold, Justified, Fair}

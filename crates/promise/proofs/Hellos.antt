@@ -1,11 +1,10 @@
 -- An answer to a public hello fits the log. Assumes nothing.
-use Rattle.std.proofs.Common.{◌≡◌, ℕ, suc, Bool, true, false, not, eqb, ◌⊎◌, List, [], ◌∷◌, ◌++◌, length, Some, sym, refl, ap, ◌∙◌, subst, inl, inr, arith}
-use Rattle.std.proofs.lemmas.Bool.{eqb-true, not-true, both_ways}
+use Rattle.std.proofs.Common.{◌≡◌, ℕ, not, eqb, ◌⊎◌, List, [], ◌∷◌, ◌++◌, length, Some, sym, refl, ap, ◌∙◌, subst, inl, inr, arith}
+use Rattle.std.proofs.lemmas.Bool.{eqb-true}
 use Rattle.words.specs.Numbers.{wrong_side, nothing_in_common, common_one}
 use Rattle.words.specs.Choice.{choose}
 use Rattle.symbolic.specs.Key.{Key, own, made, insert}
-use Rattle.symbolic.specs.Term.{Term, Fresh, Secret, One, Sign, same, seen, rise}
-use Rattle.symbolic.proofs.Terms.{is_same}
+use Rattle.symbolic.specs.Term.{Term, Fresh, Secret, Sign, same, seen, rise}
 use Rattle.symbolic.proofs.Public.{Ok}
 use Rattle.protocol.specs.Lists.{nth}
 use Rattle.protocol.specs.Got.{Yes}
@@ -18,14 +17,12 @@ use Rattle.protocol.proofs.Steps.{yes_same, by_guard, by_need}
 use Rattle.protocol.proofs.Tables.{newest_bounded}
 use Rattle.protocol.proofs.Rows.{Rows, rows_map, rows_append, rows_newest}
 use Rattle.promise.specs.Run.{Log, Past}
-use Rattle.promise.specs.Session.{hello_of}
 use Rattle.promise.proofs.Events.{other_kind}
 use Rattle.promise.proofs.Logs.{later, now_past, now_or_before, at_shorter}
-use Rattle.promise.proofs.Released.{released, AnswerMade, half_of, Justified, Fair}
+use Rattle.promise.proofs.Released.{released, AnswerMade, Justified, Fair}
 use Rattle.promise.proofs.Fair.{the_answer, the_called_end}
 use Rattle.promise.proofs.Shapes.{fresh_time}
-use Rattle.promise.proofs.Sound.{AnswerRow, Seat, Sound, key_is, answer_row_grows, grow_calls, grow_answers, grow_ended, OfSide, Fits, spoken}
-use Rattle.promise.proofs.Calls.{half_is}
+use Rattle.promise.proofs.Sound.{AnswerRow, Seat, Sound, key_is, answer_row_grows, grow_calls, grow_ended, Fits, spoken}
 
 -- what a side signs with its own key
 pub signed_by : (v : Variant) {preferences : List (List ℕ)} {n : ℕ} {s : Side Term} → Seat preferences n s → (m : Term) → (primitives v).sign s.own m ≡ Sign (own s.me 0) m

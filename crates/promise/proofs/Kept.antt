@@ -1,22 +1,22 @@
 -- The promise of a good world, but for the undisturbed session. Assumes nothing.
-use Rattle.std.proofs.Common.{◌≡◌, ℕ, zero, suc, ◌+◌, ◌-◌, ◌<◌, ◌≤◌, Bool, true, ◌⊎◌, List, [], ◌∷◌, ◌++◌, length, drop, Some, sym, refl, ap, ◌∙◌, subst, inl, inr, arith, length-append}
+use Rattle.std.proofs.Common.{◌≡◌, ℕ, ◌-◌, ◌<◌, true, ◌⊎◌, List, [], ◌∷◌, ◌++◌, length, drop, sym, ap, ◌∙◌, subst, inl, inr, arith, length-append}
 use mathlib.Core.List.{Memᴰ}
 use Rattle.words.specs.Choice.{holds}
 use Rattle.symbolic.specs.Term.{Term}
 use Rattle.symbolic.specs.Derivable.{Gets}
-use Rattle.protocol.specs.Lists.{nth, put, newest, kept}
-use Rattle.protocol.specs.Got.{No, bind}
+use Rattle.protocol.specs.Lists.{put, newest}
+use Rattle.protocol.specs.Got.{bind}
 use Rattle.protocol.specs.Words.{Hello, Reply}
 use Rattle.protocol.specs.Side.{Call, Answer, Session, Side, most_calls, most_answers, most_ended, counted}
-use Rattle.protocol.specs.Event.{Begun, Answered, Finished, Event, begun, answered, caller_ended, called_ended, held, heard}
+use Rattle.protocol.specs.Event.{Begun, Answered, Finished, Event, begun, answered, caller_ended, heard}
 use Rattle.protocol.specs.World as world
 use Rattle.protocol.specs.World.{rules, World, handle, settled, acted, play}
 use Rattle.protocol.specs.Symbols.{symbols, fresh, Variant, primitives}
 use Rattle.protocol.proofs.Rows.{Rows, rows_pair}
-use Rattle.promise.specs.Run.{Log, At, here, there, Past, safe, untaken}
+use Rattle.promise.specs.Run.{At, Past, safe, untaken}
 use Rattle.promise.specs.Session as session
 use Rattle.promise.specs.Session.{hello_of, EndedBefore, SameSession, Sure, GivenAway, TakenWhileOpen, Out}
-use Rattle.promise.specs.Promise.{RightKeys, CallerHasPartner, CalledHasPartner, OneEach, EndsByItsWords, Unshared, SecretKept, PartnerOut, CalledSecretKept, OnlyGivenAway, NobodyElse, NobodyElseHasIt, ChoiceOffered, Unheard, RefusalIsSilent, Bounded, InOrder, OldestGoes, TablesHoldTheNewest}
+use Rattle.promise.specs.Promise.{RightKeys, CallerHasPartner, CalledHasPartner, OneEach, EndsByItsWords, Unshared, SecretKept, CalledSecretKept, OnlyGivenAway, NobodyElseHasIt, ChoiceOffered, RefusalIsSilent, InOrder, OldestGoes, TablesHoldTheNewest}
 use Rattle.promise.proofs.Variants.{Laws}
 use Rattle.promise.proofs.Events.{caller_same}
 use Rattle.promise.proofs.Logs.{later, none_taken, at_split}
@@ -25,7 +25,7 @@ use Rattle.promise.proofs.Fair as fair
 use Rattle.promise.proofs.Fair.{the_call, the_answer, the_caller_end, the_called_end, Holder, holder, past_is}
 use Rattle.promise.proofs.Partners.{one_place, one_below, one_answer, answer_time, reply_time, call_time, caller_once, called_once, joined, has_answerer, has_caller, same_body}
 use Rattle.promise.proofs.Secrecy.{derived_out, shared_out, sure_answer}
-use Rattle.promise.proofs.Sound.{CallRow, AnswerRow, EndedRow, Sound}
+use Rattle.promise.proofs.Sound.{Sound}
 use Rattle.promise.proofs.Reached.{Good}
 
 -- what goes for a new one is the oldest

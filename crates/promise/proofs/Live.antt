@@ -1,15 +1,15 @@
 -- Each step of an undisturbed session is taken. Assumes nothing.
-use Rattle.std.proofs.Common.{◌≡◌, ℕ, ◌≤◌, Bool, true, false, cond, not, ◌||◌, eqb, ◌⊎◌, List, [], ◌∷◌, ◌++◌, length, is_some, Some, None, Option, sym, refl, ap, ◌∙◌, subst, inl, inr, arith}
+use Rattle.std.proofs.Common.{◌≡◌, ℕ, ◌≤◌, Bool, true, false, not, eqb, List, [], ◌∷◌, ◌++◌, length, is_some, Some, sym, refl, ap, ◌∙◌}
 use mathlib.Core.List.{Memᴰ}
-use Rattle.std.proofs.lemmas.Bool.{eq-eqb, eqb-true, not_from_false, cond-true}
+use Rattle.std.proofs.lemmas.Bool.{eq-eqb}
 use Rattle.words.specs.Numbers.{wrong_side, nothing_in_common, no_such_call, bad_signature, not_offered, seal_shut, common_one, no_such_session, other_reply}
 use Rattle.words.specs.Registry.{kind_end, derive_lock}
 use Rattle.words.specs.Choice.{holds, choose, proper}
 use Rattle.symbolic.specs.Key.{Key, own, made, insert}
-use Rattle.symbolic.specs.Term.{Term, Number, Fresh, Secret, Public, One, Element, Sign, Mac, Close, Both, Tag, same, seen, rise}
+use Rattle.symbolic.specs.Term.{Term, Number, Secret, Public, Element, Sign, Mac, Close, Both, Tag, same, seen, rise}
 use Rattle.symbolic.proofs.Terms.{is_same, same_is, rise_swap}
-use Rattle.protocol.specs.Lists.{nth, put, seek, without}
-use Rattle.protocol.specs.Got.{Got, No, Yes, bind}
+use Rattle.protocol.specs.Lists.{nth, put, seek}
+use Rattle.protocol.specs.Got.{Yes, bind}
 use Rattle.protocol.specs.Words.{Hello, Reply, Word, a_hello, a_reply, an_end}
 use Rattle.protocol.specs.Algebra.{seal_key, unsealed, lock_key, unlocked}
 use Rattle.protocol.specs.Side.{Call, Answer, Side}
@@ -17,19 +17,19 @@ use Rattle.protocol.specs.Event.{Begun, Answered, begun, answered}
 use Rattle.protocol.specs.Step.{Reaction, call, begin_call, take_hello, give_answer, take_reply, has_hello, end_call, take_end, opens, end_answer}
 use Rattle.protocol.specs.World as world
 use Rattle.protocol.specs.World.{rules, World, handle, settled, ordered, acted, play}
-use Rattle.protocol.specs.Symbols.{symbols, fresh, hello_term, reply_term, nothing, by_key, key_seen, front_seen, rear_seen, Variant, primitives}
-use Rattle.protocol.proofs.Steps.{guard_passed, need_met, bind_met, some_same, none_some}
+use Rattle.protocol.specs.Symbols.{symbols, fresh, hello_term, reply_term, nothing, front_seen, rear_seen, Variant, primitives}
+use Rattle.protocol.proofs.Steps.{guard_passed, need_met}
 use Rattle.protocol.proofs.Reading.{written_hello, written_reply, written_end, signed_verifies, closed_opens}
 use Rattle.protocol.proofs.Tables.{seek_found, seek_finds}
 use Rattle.protocol.proofs.Rows.{rows_of}
-use Rattle.promise.specs.Run.{Log, Past}
+use Rattle.promise.specs.Run.{Past}
 use Rattle.promise.specs.Session.{hello_of}
 use Rattle.promise.proofs.Variants.{Laws}
-use Rattle.promise.proofs.Released.{sealing_key, half_of, lock_of, end_signature, Fair}
+use Rattle.promise.proofs.Released.{sealing_key, half_of, lock_of, end_signature}
 use Rattle.promise.proofs.Fair.{the_call, the_answer}
 use Rattle.protocol.proofs.Apart.{hello_same}
 use Rattle.promise.proofs.Partners.{call_time, one_call, answer_time, one_answer}
-use Rattle.promise.proofs.Sound.{CallRow, AnswerRow, Seat, Sound, key_there}
+use Rattle.promise.proofs.Sound.{CallRow, AnswerRow, Seat, key_there}
 use Rattle.promise.proofs.Calls.{half_is}
 use Rattle.promise.proofs.Hellos.{common_is}
 use Rattle.promise.proofs.Ends.{one_secret}

@@ -1,8 +1,7 @@
 -- Logs: two entries with the same number of things before them are one, and of two entries one is the earlier. Assumes nothing.
-use Rattle.std.proofs.Common.{◌≡◌, ℕ, suc, ◌<◌, ◌≤◌, Bool, true, false, not, ◌&&◌, ◌⊎◌, List, [], ◌∷◌, ◌++◌, length, sym, refl, ap, ◌∙◌, subst, inl, inr, arith}
-use mathlib.Core.List.{Memᴰ}
+use Rattle.std.proofs.Common.{◌≡◌, ◌<◌, Bool, true, not, ◌⊎◌, List, [], ◌∷◌, ◌++◌, length, sym, refl, ap, ◌∙◌, subst, inl, inr, arith}
 use Rattle.std.proofs.lemmas.Bool.{and_parts, not-true, false≢true}
-use Rattle.symbolic.specs.Term.{Term, same}
+use Rattle.symbolic.specs.Term.{Term}
 use Rattle.symbolic.proofs.Terms.{is_same}
 use Rattle.protocol.specs.Event.{Event, Entry, stolen, taken, Theft}
 use Rattle.promise.specs.Run.{Log, At, here, there, Past, robs, takes, never, safe, untaken}

@@ -1,13 +1,12 @@
 -- Who ends a session surely has a partner, and one only. Assumes nothing.
-use Rattle.std.proofs.Common.{◌≡◌, ℕ, true, ◌⊎◌, List, [], ◌∷◌, length, Some, sym, refl, ap, ◌∙◌, subst, inl, inr, arith}
-use mathlib.Core.List.{Memᴰ}
+use Rattle.std.proofs.Common.{◌≡◌, ℕ, true, ◌⊎◌, length, Some, sym, ap, ◌∙◌, subst, inl, inr, arith}
 use Rattle.words.specs.Registry.{derive_lock}
 use Rattle.words.specs.Choice.{choose}
-use Rattle.symbolic.specs.Key.{Key, key, own, made, plain}
+use Rattle.symbolic.specs.Key.{own, made}
 use Rattle.symbolic.specs.Term.{Term, Number, Fresh, Secret, Public, Sign, Mac, Both}
-use Rattle.symbolic.proofs.Public.{Ok, stays, ok_closed, ok_signer, ok_right}
+use Rattle.symbolic.proofs.Public.{Ok, ok_closed, ok_signer, ok_right}
 use Rattle.protocol.specs.Words.{Hello, Body, Reply}
-use Rattle.protocol.specs.Event.{Begun, Answered, Finished, Theft, Event, begun, answered, caller_ended, called_ended, stolen, taken, Entry}
+use Rattle.protocol.specs.Event.{Begun, Answered, Finished, Event, begun, answered, caller_ended, called_ended, Entry}
 use Rattle.protocol.specs.Symbols.{reply_term, nothing, Variant}
 use Rattle.promise.proofs.Variants.{Laws}
 use Rattle.promise.specs.Run.{Log, At, Past, safe}
@@ -16,7 +15,7 @@ use Rattle.promise.proofs.Events.{begun_same, answered_same}
 use Rattle.promise.proofs.Logs.{later, at_unique, at_order, not_stolen, not_taken}
 use Rattle.promise.proofs.Released as released
 use Rattle.promise.proofs.Released.{Known, Signed, Closed, CallerEnd, CalledEnd, AnswerMade, OpenCall, lock_of, end_signature, sealing_key, half_of, Fair}
-use Rattle.promise.proofs.Fair.{fair_below, the_call, the_answer, the_caller_end, the_called_end, the_theft, the_taking, reply_box, reply_signature, same_box}
+use Rattle.promise.proofs.Fair.{fair_below, the_call, the_answer, the_caller_end, the_called_end, the_theft, the_taking, reply_signature, same_box}
 use Rattle.protocol.proofs.Apart.{reply_same}
 use Rattle.promise.proofs.Shapes.{close_content, key_kind, secret_key, fresh_time, own_side, lock_seal, lock_reply, lock_side}
 

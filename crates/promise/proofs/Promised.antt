@@ -1,9 +1,9 @@
 -- Every world that the network can reach keeps the promise. Assumes nothing.
-use Rattle.std.proofs.Common.{◌≡◌, ℕ, true, List, [], ◌∷◌, refl}
+use Rattle.std.proofs.Common.{ℕ, List, [], ◌∷◌, refl}
 use Rattle.symbolic.specs.Term.{Term}
 use Rattle.protocol.specs.World.{rules, World, Command, play, plays}
 use Rattle.protocol.specs.Symbols.{symbols, fresh, start, Variant, standard, primitives}
-use Rattle.promise.specs.Run.{all_proper, Reach, begin, more}
+use Rattle.promise.specs.Run.{Reach, begin, more}
 use Rattle.promise.specs.Promise.{Promise, Always, AllAllowed, EveryRunKeepsThePromise}
 use Rattle.promise.proofs.Variants.{Laws, standard_laws}
 use Rattle.promise.proofs.Reached.{Good, reached_good}

@@ -1,5 +1,5 @@
 -- Every world that the network can reach is good: its log is fair, and its sides are sound. Assumes nothing.
-use Rattle.std.proofs.Common.{◌≡◌, ℕ, zero, suc, ◌+◌, Bool, true, false, cond, ◌&&◌, eqb, ◌⊎◌, List, [], ◌∷◌, ◌++◌, map, length, Some, None, Option, sym, refl, ap, ◌∙◌, subst, inl, inr, arith}
+use Rattle.std.proofs.Common.{◌≡◌, ℕ, zero, suc, ◌+◌, Bool, true, false, cond, eqb, ◌⊎◌, List, [], ◌∷◌, ◌++◌, map, length, Some, None, Option, sym, refl, ap, ◌∙◌, subst, inl, inr, arith}
 use mathlib.Core.List.Memᴰ
 use mathlib.Core.List.{Memᴰ}
 use Rattle.std.proofs.lemmas.Bool.{eqb-true, and_parts}
@@ -17,17 +17,16 @@ use Rattle.protocol.specs.Step.{Reaction, call, refuse}
 use Rattle.protocol.specs.World as world
 use Rattle.protocol.specs.World.{rules, World, Command, handle, settled, ordered, acted, entry_at, told_by, revealed, robbed, play}
 use Rattle.protocol.specs.Symbols.{symbols, fresh, word_term, new_keys, new_side, new_sides, start, by_key, key_seen, Variant, primitives}
-use Rattle.protocol.proofs.Steps.{none_some, some_same, no_yes, by_bind}
+use Rattle.protocol.proofs.Steps.{none_some, some_same, by_bind}
 use Rattle.protocol.proofs.Reading.{read_is}
 use Rattle.protocol.proofs.Tables.{put_nth, length_put}
 use Rattle.protocol.proofs.Rows.{Rows, rows_of}
 use Rattle.protocol.proofs.Rows as rows
-use Rattle.promise.specs.Run.{Log, At, here, there, Past, Allowed, all_proper, Reach, begin, more}
+use Rattle.promise.specs.Run.{Log, At, here, there, Allowed, all_proper, Reach, begin, more}
 use Rattle.promise.specs.Session.{hello_of}
 use Rattle.promise.proofs.Variants.{Laws}
 use Rattle.promise.proofs.Events.{kind, other_kind}
-use Rattle.promise.proofs.Logs.{newest_at}
-use Rattle.promise.proofs.Released.{released, TheftDone, OpenCall, KeysTaken, SecretTold, Justified, Fair}
+use Rattle.promise.proofs.Released.{released, OpenCall, Justified, Fair}
 use Rattle.promise.proofs.Fair.{the_call, the_answer, derivable_public}
 use Rattle.promise.proofs.Sound.{CallRow, AnswerRow, Seat, Sound, grow_calls, grow_answers, grow_ended, OfSide, Fits, quiet, spoken}
 use Rattle.promise.proofs.Calls.{call_fits}

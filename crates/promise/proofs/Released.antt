@@ -7,7 +7,7 @@ use Rattle.symbolic.specs.Key.{Key, own, made, plain}
 use Rattle.symbolic.specs.Term.{Term, Number, Fresh, Secret, Public, One, Element, Sign, Mac, Close, Both, Tag, rise}
 use Rattle.symbolic.proofs.Public.{Released, Ok, Grows}
 use Rattle.protocol.specs.Words.{Reply}
-use Rattle.protocol.specs.Event.{Begun, Answered, Finished, Theft, Told, Held, held, Event, begun, answered, caller_ended, called_ended, stolen, taken, told, drew, spoke, Entry}
+use Rattle.protocol.specs.Event.{Begun, Answered, Finished, Theft, Told, held, Event, begun, answered, caller_ended, called_ended, stolen, taken, told, drew, spoke, Entry}
 use Rattle.protocol.specs.Symbols.{hello_term, reply_term, nothing, Variant}
 use Rattle.promise.specs.Run.{Log, At, Past}
 use Rattle.promise.specs.Session.{hello_of}

@@ -1,31 +1,31 @@
 -- A caller that takes a public reply fits the log. Assumes nothing.
-use Rattle.std.proofs.Common.{◌≡◌, ℕ, suc, ◌≤◌, Bool, true, false, not, eqb, ◌⊎◌, List, [], ◌∷◌, ◌++◌, length, Some, sym, refl, ap, ◌∙◌, subst, inl, inr, le_trans, arith}
+use Rattle.std.proofs.Common.{◌≡◌, ℕ, true, not, eqb, List, [], ◌∷◌, ◌++◌, length, Some, sym, refl, ap, ◌∙◌, subst, le_trans}
 use mathlib.Core.List.{Memᴰ}
 use Rattle.std.proofs.lemmas.Bool.{eqb-true}
 use Rattle.words.specs.Numbers.{wrong_side, no_such_call, bad_signature, not_offered, seal_shut, common_one}
 use Rattle.words.specs.Registry.{kind_end, derive_lock}
 use Rattle.words.specs.Choice.{holds}
 use Rattle.symbolic.specs.Key.{Key, own, made}
-use Rattle.symbolic.specs.Term.{Term, Number, Secret, Public, One, Mac, Both, Tag, Close, same, seen, rise}
+use Rattle.symbolic.specs.Term.{Term, Number, Secret, Public, Mac, Both, Tag, Close, same, rise}
 use Rattle.symbolic.proofs.Terms.{same_is, is_same}
 use Rattle.symbolic.proofs.Public.{Ok}
 use Rattle.protocol.specs.Lists.{nth, seek, without}
 use Rattle.protocol.specs.Got.{Yes}
 use Rattle.protocol.specs.Words.{Hello, Reply}
-use Rattle.protocol.specs.Algebra.{unsealed, lock_key, seal_key}
-use Rattle.protocol.specs.Side.{Call, Session, Side, most_ended}
-use Rattle.protocol.specs.Event.{Begun, Finished, caller_ended, called_ended, Entry}
+use Rattle.protocol.specs.Algebra.{unsealed, seal_key}
+use Rattle.protocol.specs.Side.{Call, Side, most_ended}
+use Rattle.protocol.specs.Event.{Finished, caller_ended, called_ended, Entry}
 use Rattle.protocol.specs.Step.{Reaction, has_hello, end_call, take_reply, new_session}
 use Rattle.protocol.specs.Symbols.{hello_term, reply_term, nothing, Variant, primitives}
 use Rattle.protocol.proofs.Steps.{yes_same, by_guard, by_need}
 use Rattle.protocol.proofs.Reading.{verified_is, unclosed_is}
 use Rattle.protocol.proofs.Tables.{seek_found, newest_bounded, without_shorter}
-use Rattle.protocol.proofs.Rows.{Rows, rows_of, rows_without, rows_once}
-use Rattle.promise.specs.Run.{Log, Past}
+use Rattle.protocol.proofs.Rows.{rows_of, rows_without, rows_once}
+use Rattle.promise.specs.Run.{Log}
 use Rattle.promise.specs.Session.{hello_of, session_of}
 use Rattle.promise.proofs.Events.{other_kind, caller_same}
 use Rattle.promise.proofs.Logs.{now_past}
-use Rattle.promise.proofs.Released.{released, CallerEnd, sealing_key, half_of, lock_of, Justified, Fair}
+use Rattle.promise.proofs.Released.{released, CallerEnd, sealing_key, half_of, Justified, Fair}
 use Rattle.promise.proofs.Fair.{the_call}
 use Rattle.protocol.proofs.Apart.{hello_same}
 use Rattle.promise.proofs.Partners.{call_time}

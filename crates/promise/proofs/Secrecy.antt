@@ -1,12 +1,12 @@
 -- The secret of a session comes out only if one of its two ends gives it away, or the caller's private keys are taken while it is open. Assumes nothing.
-use Rattle.std.proofs.Common.{◌≡◌, ℕ, zero, suc, ◌<◌, ◌≤◌, true, ◌⊎◌, List, [], ◌∷◌, length, sym, refl, ap, ◌∙◌, subst, inl, inr, arith}
+use Rattle.std.proofs.Common.{◌≡◌, ℕ, zero, suc, ◌<◌, ◌≤◌, ◌⊎◌, length, sym, refl, ap, ◌∙◌, subst, inl, inr, arith}
 use mathlib.Core.List.{Memᴰ}
-use Rattle.symbolic.specs.Key.{Key, key, own, made, plain}
+use Rattle.symbolic.specs.Key.{Key, own, made}
 use Rattle.symbolic.specs.Term.{Term, Fresh, Secret, One, Element, rise}
 use Rattle.symbolic.specs.Derivable.{Gets}
 use Rattle.symbolic.proofs.Public.{Ok, ok_given}
 use Rattle.protocol.specs.Words.{Hello, Reply}
-use Rattle.protocol.specs.Event.{Begun, Answered, Finished, Theft, Told, Event, begun, answered, caller_ended, called_ended, taken, told, Entry, heard}
+use Rattle.protocol.specs.Event.{Begun, Answered, Finished, Told, Event, begun, answered, caller_ended, called_ended, taken, told, heard}
 use Rattle.protocol.specs.Symbols.{Variant}
 use Rattle.promise.proofs.Variants.{Laws}
 use Rattle.promise.specs.Run.{Log, At, Past}
@@ -19,7 +19,7 @@ use Rattle.promise.proofs.Released.{Known, Given, CallerEnd, AnswerMade, OpenCal
 use Rattle.promise.proofs.Fair as fair
 use Rattle.promise.proofs.Fair.{fair_below, the_call, the_answer, the_caller_end, the_called_end, the_taking, the_telling, Holder, holder, past_is, secret_source, same_box, derivable_public}
 use Rattle.promise.proofs.Shapes.{key_kind, key_index, secret_key, fresh_time, half_key, half_keys, made_time, sealed_half}
-use Rattle.promise.proofs.Partners.{one_place, one_below, one_call, one_answer, call_time, caller_once, has_answerer}
+use Rattle.promise.proofs.Partners.{one_place, one_call, one_answer, caller_once, has_answerer}
 
 -- a half that is raised isn't the group's one
 raised_not_one : (y x : Key) → rise y (half_of x) ≡ One → ⊥

@@ -1,12 +1,12 @@
 -- What equal terms say of their parts. Assumes nothing.
-use Rattle.std.proofs.Common.{◌≡◌, ℕ, List, [], ◌∷◌, sym, refl, ap, ◌∙◌, arith}
+use Rattle.std.proofs.Common.{◌≡◌, ℕ, List, [], ◌∷◌, arith}
 use Rattle.words.specs.Registry.{derive_lock}
 use Rattle.symbolic.specs.Key.{Key, key, own, made}
-use Rattle.symbolic.specs.Term.{Term, Number, Fresh, Secret, Element, Mac, Close, Both, rise}
+use Rattle.symbolic.specs.Term.{Term, Number, Fresh, Secret, Element, Mac, Close, Both}
 use Rattle.protocol.specs.Words.{Reply}
 use Rattle.protocol.specs.Symbols.{reply_term, nothing, Variant}
 use Rattle.protocol.proofs.Apart.{reply_same}
-use Rattle.promise.proofs.Released.{lock_of, end_signature, sealing_key, half_of}
+use Rattle.promise.proofs.Released.{lock_of, sealing_key, half_of}
 
 pub fresh_time : (t u i j : ℕ) → Fresh t i ≡ Fresh u j → t ≡ u
 fresh_time t u i j e = cc

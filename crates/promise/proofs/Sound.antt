@@ -1,18 +1,17 @@
 -- What holds of every side in every world that is reached: its tables have what the log has and has not ended. Assumes nothing.
-use Rattle.std.proofs.Common.{◌≡◌, ℕ, zero, suc, ◌+◌, ◌≤◌, Bool, true, ◌⊎◌, List, [], ◌∷◌, ◌++◌, length, Some, sym, refl, ap, ◌∙◌, subst, inl, inr, arith}
+use Rattle.std.proofs.Common.{◌≡◌, ℕ, zero, suc, ◌+◌, ◌≤◌, Bool, true, ◌⊎◌, List, [], ◌∷◌, ◌++◌, length, Some, sym, ap, ◌∙◌, inl, inr, arith}
 use mathlib.Core.List.{Memᴰ}
 use Rattle.words.specs.Choice.{proper}
 use Rattle.symbolic.specs.Key.{own}
 use Rattle.symbolic.specs.Term.{Term, Secret, Public}
 use Rattle.protocol.specs.Lists.{nth, kept}
-use Rattle.protocol.specs.Words.{Hello, Reply}
 use Rattle.protocol.specs.Side.{Call, Answer, Session, Side, most_calls, most_answers, most_ended}
 use Rattle.protocol.specs.Event.{Begun, Answered, Finished, Event, begun, answered, caller_ended, called_ended, Entry}
 use Rattle.protocol.specs.Step.{Reaction}
 use Rattle.protocol.specs.Symbols.{new_keys, Variant}
 use Rattle.protocol.proofs.Steps.{none_some, some_same}
 use Rattle.protocol.proofs.Rows.{Rows, rows_high, rows_map, rows_append, rows_newest}
-use Rattle.promise.specs.Run.{Log, At, Past}
+use Rattle.promise.specs.Run.{Log, Past}
 use Rattle.promise.specs.Session.{hello_of, ended_by, session_of}
 use Rattle.promise.proofs.Logs.{next, now_or_before}
 use Rattle.promise.proofs.Released.{Justified}

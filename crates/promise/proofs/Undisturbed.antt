@@ -1,28 +1,26 @@
 -- If the network does nothing but deliver, a call ends on both sides. Assumes nothing.
-use Rattle.std.proofs.Common.{◌≡◌, ℕ, ◌≤◌, Bool, true, false, cond, not, ◌&&◌, ◌||◌, eqb, ◌⊎◌, List, [], ◌∷◌, ◌++◌, length, Some, None, Option, sym, refl, ap, ◌∙◌, subst, inl, inr, arith}
+use Rattle.std.proofs.Common.{◌≡◌, ℕ, Bool, true, false, cond, not, ◌⊎◌, List, [], ◌∷◌, length, Some, sym, refl, ap, ◌∙◌, subst, inl, inr, arith}
 use mathlib.Core.List.{Memᴰ}
-use Rattle.std.proofs.lemmas.Bool.{and_from, eq-eqb, eqb-true, or_right}
+use Rattle.std.proofs.lemmas.Bool.{and_from}
 use Rattle.words.specs.Registry.{kind_end, derive_lock}
-use Rattle.words.specs.Choice.{holds, choose, proper}
-use Rattle.symbolic.specs.Key.{Key, own, made, insert}
-use Rattle.symbolic.specs.Term.{Term, Number, Fresh, Secret, Public, Sign, Mac, Close, Both, Tag, seen, rise}
+use Rattle.words.specs.Choice.{holds, choose}
+use Rattle.symbolic.specs.Key.{own, made, insert}
+use Rattle.symbolic.specs.Term.{Term, Number, Fresh, Secret, Sign, Mac, Close, Both, Tag, seen, rise}
 use Rattle.symbolic.specs.Derivable.{by_ear}
-use Rattle.protocol.specs.Lists.{nth, put, kept}
-use Rattle.protocol.specs.Words.{Hello, Body, Reply}
+use Rattle.protocol.specs.Lists.{nth}
+use Rattle.protocol.specs.Words.{Hello, Reply}
 use Rattle.protocol.specs.Side.{Call, Answer, Side, most_calls, most_answers}
-use Rattle.protocol.specs.Event.{Begun, Answered, Finished, Event, begun, answered, caller_ended, called_ended, Entry, heard}
+use Rattle.protocol.specs.Event.{Begun, Answered, Finished, begun, answered, caller_ended, Entry, heard}
 use Rattle.protocol.specs.Step.{Reaction, new_hello, new_body, new_reply, begin_call, give_answer, end_call, end_answer}
 use Rattle.protocol.specs.World as world
 use Rattle.protocol.specs.World.{rules, World, play}
 use Rattle.protocol.specs.Symbols.{symbols, fresh, hello_term, reply_term, nothing, by_key, key_seen, Variant, primitives}
 use Rattle.protocol.proofs.Steps.{some_same, none_some}
 use Rattle.protocol.proofs.Tables.{put_nth, nth_put, put_there, kept_new}
-use Rattle.promise.specs.Run.{Log, At, here, there, Past, Allowed, robs, never, safe}
-use Rattle.promise.specs.Session.{hello_of}
+use Rattle.promise.specs.Run.{Log, here, there, Past, Allowed, robs, never, safe}
 use Rattle.promise.specs.Promise.{identity, last_heard, passed_on, undisturbed, BothEnded, UndisturbedEnds}
 use Rattle.promise.proofs.Variants.{Laws}
-use Rattle.promise.proofs.Logs.{next, now_past}
-use Rattle.promise.proofs.Released.{half_of, lock_of, end_signature}
+use Rattle.promise.proofs.Released.{lock_of}
 use Rattle.promise.proofs.Calls.{half_is}
 use Rattle.promise.proofs.Hellos.{signed_by}
 use Rattle.promise.proofs.Sound.{Sound}

@@ -1,5 +1,5 @@
 -- What the proof of the promise needs of a variant of the primitives. The rules have it. Assumes nothing.
-use Rattle.std.proofs.Common.{◌≡◌, ℕ, List, refl, arith}
+use Rattle.std.proofs.Common.{◌≡◌, ℕ, List, arith}
 use Rattle.symbolic.specs.Key.{Key}
 use Rattle.symbolic.specs.Term.{Term, One, Element}
 use Rattle.symbolic.proofs.Public.{Ok}

@@ -1,5 +1,5 @@
 -- What is promised of every world that the network can reach. Each statement is of a world; `Always` says it of all. Assumes nothing.
-use Rattle.std.specs.Prelude.{◌≡◌, ℕ, ◌<◌, ◌≤◌, Bool, true, false, ◌⊎◌, List, [], ◌∷◌, ◌++◌, length, drop, Some, Option}
+use Rattle.std.specs.Prelude.{◌≡◌, ℕ, ◌<◌, ◌≤◌, true, ◌⊎◌, List, [], ◌∷◌, ◌++◌, length, drop, Some}
 use mathlib.Core.List.{Memᴰ}
 use Rattle.words.specs.Choice.{holds, choose}
 use Rattle.symbolic.specs.Key.{own}
@@ -8,7 +8,7 @@ use Rattle.symbolic.specs.Derivable.{Gets}
 use Rattle.protocol.specs.Lists.{nth, put, kept}
 use Rattle.protocol.specs.Got.{No, bind}
 use Rattle.protocol.specs.Side.{Call, Answer, Session, Side, most_calls, most_answers, most_ended, counted}
-use Rattle.protocol.specs.Event.{Begun, Answered, Finished, Held, held, Event, begun, answered, caller_ended, called_ended, Entry, heard}
+use Rattle.protocol.specs.Event.{Begun, Answered, Finished, held, Event, begun, answered, caller_ended, called_ended, Entry, heard}
 use Rattle.protocol.specs.World as world
 use Rattle.protocol.specs.World.{Handlers, rules, World, Command, handle, play, plays}
 use Rattle.protocol.specs.Symbols.{symbols, fresh, start}

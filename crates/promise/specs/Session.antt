@@ -1,5 +1,5 @@
 -- Sessions as the log has them: partners, sure ends, and how a secret can come out. Assumes nothing.
-use Rattle.std.specs.Prelude.{◌≡◌, ℕ, ◌<◌, Bool, true, false, ◌⊎◌, List, length, Some}
+use Rattle.std.specs.Prelude.{◌≡◌, ℕ, ◌<◌, Bool, true, false, length, Some}
 use Rattle.words.specs.Choice.{choose}
 use Rattle.symbolic.specs.Term.{Term}
 use Rattle.protocol.specs.Words.{Hello, Reply}

@@ -1,13 +1,13 @@
 -- Reading over terms: what is read was written so, and what is written is read back. Assumes nothing.
-use Rattle.std.proofs.Common.{◌≡◌, ℕ, Bool, true, false, cond, ◌&&◌, eqb, ◌⊎◌, List, [], ◌∷◌, Some, None, Option, sym, refl, ap, ◌∙◌, subst, ap₂, inl, inr, arith}
+use Rattle.std.proofs.Common.{◌≡◌, ℕ, Bool, true, false, cond, ◌&&◌, eqb, List, Some, None, sym, refl, ap, ◌∙◌, ap₂, arith}
 use Rattle.std.proofs.lemmas.Bool.{eqb-true, eq-eqb, and_parts}
 use Rattle.words.specs.Numbers.{malformed}
 use Rattle.words.specs.Registry.{kind_hello, kind_end, mark_reply}
 use Rattle.words.specs.Choice.{proper}
 use Rattle.symbolic.specs.Key.{Key}
-use Rattle.symbolic.specs.Term.{Term, Raw, Number, Listed, Secret, Public, Sign, Close, Both, Tag, same, Seen, a_number, a_list, a_secret, a_public, a_closed, a_pair, a_tagged, something, seen}
-use Rattle.symbolic.proofs.Terms.{same_is, is_same, was_number, was_list, was_secret, was_public, was_closed, was_pair, was_tagged}
-use Rattle.protocol.specs.Got.{Got, No, Yes, bind, guard}
+use Rattle.symbolic.specs.Term.{Term, Raw, Number, Listed, Public, Sign, Close, Both, Tag, same, Seen, a_number, a_list, a_secret, a_public, a_closed, a_pair, a_tagged, something, seen}
+use Rattle.symbolic.proofs.Terms.{same_is, is_same, was_number, was_list, was_closed, was_pair, was_tagged}
+use Rattle.protocol.specs.Got.{Got, Yes, bind, guard}
 use Rattle.protocol.specs.Words.{Hello, Body, Reply, Word, a_hello, a_reply, an_end}
 use Rattle.protocol.specs.Symbols.{hello_term, body_term, reply_term, word_term, as_tagged, as_pair, as_number, as_list, read_hello, read_body, read_seen, read_term, verified, public_seen, unclose_seen, front_seen, rear_seen}
 use Rattle.protocol.proofs.Steps.{no_yes, yes_same, none_some, some_same, by_bind, by_guard}

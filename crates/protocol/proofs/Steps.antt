@@ -1,5 +1,5 @@
 -- What an answer says of the stages that it came through. Assumes nothing.
-use Rattle.std.proofs.Common.{◌≡◌, ℕ, Bool, true, false, Some, None, Option, sym, refl, ap, ◌∙◌, arith}
+use Rattle.std.proofs.Common.{◌≡◌, ℕ, Bool, true, false, Some, None, Option, refl, ap, arith}
 use Rattle.protocol.specs.Got.{Got, No, Yes, bind, guard, need}
 
 pub no_yes : {X : Type 0} (n : ℕ) (x : X) → No n ≡ Yes x → ⊥

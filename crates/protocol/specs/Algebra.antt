@@ -1,7 +1,7 @@
 -- The primitives that the protocol is made of. One definition of what a side does stands over any of them:
 -- over bytes it is what the code does, over terms it is what the promise is proved of. Assumes nothing.
 use Rattle.std.specs.Prelude.{ℕ, Bool, Option}
-use Rattle.words.specs.Registry.{derive_lock, derive_to_called, derive_to_caller}
+use Rattle.words.specs.Registry.{derive_lock}
 use Rattle.protocol.specs.Got.{Got}
 use Rattle.protocol.specs.Words.{Body, Word}
 

@@ -1,5 +1,5 @@
 -- Lists as tables: looking up, finding the first, taking it out, and keeping the newest. Assumes nothing.
-use Rattle.std.specs.Prelude.{ℕ, zero, suc, ◌-◌, Bool, true, false, cond, List, [], ◌∷◌, ◌++◌, length, drop, Some, None, Option}
+use Rattle.std.specs.Prelude.{ℕ, zero, suc, ◌-◌, Bool, cond, List, [], ◌∷◌, ◌++◌, length, drop, Some, None, Option}
 
 -- what stands at a place
 unfoldable pub nth : {X : Type 0} → List X → ℕ → Option X

@@ -1,5 +1,5 @@
 -- What a side does: it calls, and takes a hello, a reply and an end. Everything else is refused with its number. Assumes nothing.
-use Rattle.std.specs.Prelude.{ℕ, Bool, true, false, cond, not, List, [], ◌∷◌, is_some, Option, ◌==◌}
+use Rattle.std.specs.Prelude.{ℕ, Bool, true, false, cond, not, List, [], ◌∷◌, is_some, ◌==◌}
 use Rattle.words.specs.Numbers.{wrong_side, nothing_in_common, no_such_call, bad_signature, not_offered, seal_shut, common_one, no_such_session, other_reply}
 use Rattle.words.specs.Registry.{derive_to_called, derive_to_caller}
 use Rattle.words.specs.Choice.{holds, choose}
@@ -8,7 +8,7 @@ use Rattle.protocol.specs.Got.{Got, Yes, guard, need}
 use Rattle.protocol.specs.Words.{Hello, Body, Reply, a_hello, a_reply, an_end}
 use Rattle.protocol.specs.Algebra.{Algebra, sealed, unsealed, locked, unlocked, way_key}
 use Rattle.protocol.specs.Side.{Call, Answer, Way, Session, Side, most_calls, most_answers, most_ended, with_calls, with_answers, with_ended, counted}
-use Rattle.protocol.specs.Event.{Begun, Answered, Finished, Event, begun, answered, caller_ended, called_ended, Entry}
+use Rattle.protocol.specs.Event.{Event, begun, answered, caller_ended, called_ended, Entry}
 
 -- the values and the keys that can be drawn for one step
 pub record Draws (X : Type 0) : Type 0 where

@@ -1,11 +1,11 @@
 -- The primitives over terms, and worlds of sides over them. Perfect primitives are all that is assumed by this.
-use Rattle.std.specs.Prelude.{ℕ, zero, suc, Bool, true, false, cond, ◌&&◌, List, [], ◌∷◌, ◌++◌, map, length, replicate, Some, None, Option, ◌==◌}
+use Rattle.std.specs.Prelude.{ℕ, suc, Bool, false, cond, ◌&&◌, List, [], ◌∷◌, replicate, Some, None, Option, ◌==◌}
 use Rattle.words.specs.Numbers.{malformed}
 use Rattle.words.specs.Registry.{kind_hello, kind_end, mark_reply, mark_end}
 use Rattle.words.specs.Choice.{proper}
 use Rattle.symbolic.specs.Key.{Key, own, made}
 use Rattle.symbolic.specs.Term.{Term, Raw, Number, Listed, Fresh, Secret, Public, One, Element, Sign, Digest, Mac, Close, Both, Tag, same, rise, Seen, a_number, a_list, a_secret, a_public, a_closed, a_pair, a_tagged, something, seen}
-use Rattle.protocol.specs.Got.{Got, No, Yes, bind, guard, need}
+use Rattle.protocol.specs.Got.{Got, No, Yes, bind, guard}
 use Rattle.protocol.specs.Words.{Hello, Body, Reply, Word, a_hello, a_reply, an_end}
 use Rattle.protocol.specs.Algebra.{Algebra}
 use Rattle.protocol.specs.Side.{Side}

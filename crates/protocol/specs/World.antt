@@ -5,7 +5,7 @@ use Rattle.protocol.specs.Got.{Got, No, Yes, bind}
 use Rattle.protocol.specs.Words.{Hello, Reply, Word, a_hello, a_reply, an_end}
 use Rattle.protocol.specs.Algebra.{Algebra}
 use Rattle.protocol.specs.Side.{Side, private_keys}
-use Rattle.protocol.specs.Event.{Theft, Told, Held, held, Event, stolen, taken, told, drew, Entry}
+use Rattle.protocol.specs.Event.{Theft, Held, held, Event, stolen, taken, told, drew, Entry}
 use Rattle.protocol.specs.Step.{Draws, Reaction, did, call, take_hello, take_reply, take_end, refuse}
 
 -- how sides act; another way of acting gives another world of the same kind

@@ -1,5 +1,5 @@
 -- Terms: equality is decided, keys raise in any order, and what is seen of a term says what it is. Assumes nothing.
-use Rattle.std.proofs.Common.{◌≡◌, ℕ, Bool, true, false, List, [], sym, refl, ap, ◌∙◌}
+use Rattle.std.proofs.Common.{◌≡◌, ℕ, true, List, [], sym, refl, ap, ◌∙◌}
 use Rattle.std.proofs.lemmas.Bool.{false≢true}
 use Rattle.symbolic.specs.Key.{Key, insert}
 use Rattle.symbolic.specs.Term.{Term, Raw, Number, Listed, Fresh, Secret, Public, One, Small, Element, Power, Sign, Digest, Mac, Close, Both, Tag, terms_discrete, decided, same, rise, Seen, a_number, a_list, a_secret, a_public, a_closed, a_pair, a_tagged, something, seen}

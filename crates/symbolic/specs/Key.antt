@@ -1,5 +1,5 @@
 -- Secret keys by name, in an order, and lists of them in which the order of insertion doesn't matter. Assumes nothing.
-use Rattle.std.specs.Prelude.{◌≡◌, ℕ, Bool, cond, List, [], ◌∷◌, ◌==◌, nat_le, nat_lt}
+use Rattle.std.specs.Prelude.{ℕ, Bool, cond, List, [], ◌∷◌, ◌==◌, nat_le, nat_lt}
 use Rattle.std.proofs.Math.Decide.{ℕ_discrete}
 
 -- a secret key: what kind it is, and two numbers that name it
