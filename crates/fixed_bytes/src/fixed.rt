@@ -1,7 +1,9 @@
 // Values of a fixed size that everybody may see.
-ghost use Rattle.std.specs.Prelude.{◌≡◌, length, Decides};
+ghost use Rattle.std.specs.Prelude.{◌≡◌, length, bytes_eq};
 ghost use Rattle.std.specs.Cmp.Rules.{comparing};
-ghost use Rattle.std.proofs.Common.{rules, arith};
+ghost use Rattle.std.proofs.Common.{rules};
+ghost use Rattle.std.specs.Ordering.{on};
+ghost use Rattle.std.specs.Cmp as Keys;
 
 use crate::compare::same_bytes;
 
@@ -27,9 +29,9 @@ impl<const N: usize> Fixed<N> {
 }
 
 impl<const N: usize> PartialEq for Fixed<N> {
-    ghost equals = { λ a b r. Decides r (a.bytes ≡ b.bytes) };
+    ghost eq = { on (λ v. v.bytes) bytes_eq };
 
-    ghost laws = { first_of (Prim.search (comparing, rules), Prim.grind (arith, Self.row.coded.inj)) };
+    ghost laws = { Keys.partial_equiv_from_equiv (Prim.search (comparing, rules)) };
 
     fn eq(&self, other: &Fixed<N>) -> bool {
         same_bytes(&self.bytes, &other.bytes)

@@ -1,8 +1,10 @@
 // Values that nobody else may see: they can be neither copied nor shown, and are overwritten when they are let go.
-ghost use Rattle.std.specs.Prelude.{◌≡◌, length, Decides};
+ghost use Rattle.std.specs.Prelude.{◌≡◌, length, bytes_eq};
 ghost use Rattle.fixed_bytes.specs.Zeros.{zeros};
 ghost use Rattle.std.specs.Cmp.Rules.{comparing};
-ghost use Rattle.std.proofs.Common.{rules, arith};
+ghost use Rattle.std.proofs.Common.{rules};
+ghost use Rattle.std.specs.Ordering.{on};
+ghost use Rattle.std.specs.Cmp as Keys;
 
 use crate::compare::same_bytes;
 use crate::wipe::wipe;
@@ -47,9 +49,9 @@ impl Drop for Secret {
 }
 
 impl PartialEq for Secret {
-    ghost equals = { λ a b r. Decides r (a.bytes ≡ b.bytes) };
+    ghost eq = { on (λ v. v.bytes) bytes_eq };
 
-    ghost laws = { first_of (Prim.search (comparing, rules), Prim.grind (arith, Self.row.coded.inj)) };
+    ghost laws = { Keys.partial_equiv_from_equiv (Prim.search (comparing, rules)) };
 
     fn eq(&self, other: &Secret) -> bool {
         same_bytes(&self.bytes, &other.bytes)

@@ -5,7 +5,7 @@ use Rattle.std.proofs.lemmas.Bool.{cond-true, cond-false, eqb-true, eqb-false, n
 use Rattle.std.proofs.lemmas.Bool.Decides.{nat_tests}
 use Rattle.script.specs.declared.text.Stop.TheVariants.{AtBlank, AtWord}
 use Rattle.script.specs.Laws.{Ignored, LatestHold, latest}
-use Rattle.script.specs.Lines.{nothing, wishes, calls, first_word, line}
+use Rattle.script.specs.Lines.{nothing, wishes, calls, first_word}
 use Rattle.script.specs.Text.{blank, hash, stops, until, from, uncommented, word, behind}
 
 cut_again : (bs more : List ℕ) (h : ℕ) → hash h ≡ true → uncommented (uncommented bs ++ h ∷ more) ≡ uncommented bs

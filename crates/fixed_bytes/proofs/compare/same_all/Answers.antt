@@ -1,5 +1,4 @@
-use Rattle.std.proofs.Common.{◌≡◌, length, sym, refl, subst, arith}
-use Rattle.fixed_bytes.specs.Same.{SameUpTo}
+use Rattle.std.proofs.Common.{◌≡◌, length, sym, arith}
 use Rattle.fixed_bytes.proofs.Comparing.{same_more, same_decides}
 use Rattle.fixed_bytes.proofs.compare.same_all.Goals as goal
 
