@@ -1,5 +1,5 @@
 -- How a list of ciphers is read byte by byte. Assumes nothing.
-use Rattle.std.proofs.Common.{◌≡◌, ℕ, zero, suc, ◌+◌, ◌-◌, ◌<◌, ◌≤◌, Bool, true, false, cond, not, eqb, ltb, leb, List, [], ◌∷◌, ◌++◌, length, take, drop, Ok, Err, Result, sym, refl, ap, ◌∙◌, subst, ap₂, append_assoc, arith}
+use Rattle.std.proofs.Common.{◌≡◌, ℕ, zero, suc, ◌+◌, ◌-◌, ◌<◌, ◌≤◌, Bool, true, false, cond, not, eqb, leb, List, [], ◌∷◌, ◌++◌, length, take, drop, Ok, Err, Result, sym, refl, ap, ◌∙◌, ap₂, append_assoc, arith}
 use Rattle.std.proofs.lemmas.List.{nil_from_length, append-nil, take-append-drop, length-take-le}
 use Rattle.std.proofs.lemmas.Bool.{both_ways, lt-ltb, not-true, not_from_false, ne_eqb, eqb-false, leb-true, le-leb}
 use Rattle.words.specs.declared.cipher.Cipher.{Cipher}
@@ -7,9 +7,9 @@ use Rattle.words.specs.declared.fault.Fault.{Fault}
 use Rattle.words.specs.declared.fault.Fault.TheVariants.{BadLength, NoCipher, TooManyCiphers, CipherTwice}
 use Rattle.words.specs.declared.preferences.Preferences.{Preferences}
 use Rattle.words.specs.Choice.{holds, distinct, proper, most_ciphers}
-use Rattle.words.specs.Listed.{listed, addable, Added}
-use Rattle.formats.specs.Reading.{must, byte, more_ciphers, listing}
-use Rattle.words.proofs.Listing.{Proper, distinct_again, distinct_push, proper_parts, proper_from}
+use Rattle.words.specs.Listed.{listed, Added}
+use Rattle.formats.specs.Reading.{must, more_ciphers, listing}
+use Rattle.words.proofs.Listing.{distinct_again, distinct_push, proper_parts, proper_from}
 use Rattle.formats.proofs.Stages.{err_ok, ok_same, must_true, by_must, by_byte}
 
 -- one cipher after another

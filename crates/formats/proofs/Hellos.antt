@@ -1,6 +1,6 @@
 -- Hellos: what is read was written so, and what is written is read back. Assumes nothing.
 use Rattle.std.proofs.Common.{◌≡◌, ℕ, ◌+◌, ◌^◌, ◌<◌, ◌≤◌, true, eqb, List, [], ◌∷◌, ◌++◌, length, take, drop, Ok, Err, Result, sym, refl, ap, ◌∙◌, subst, ap₂, append_assoc, arith, length-append}
-use Rattle.std.proofs.ByRecursion.{All-take, All-drop, All-append}
+use Rattle.std.proofs.ByRecursion.{All-drop}
 use Rattle.std.proofs.lemmas.List.{take-append-drop, length-take-le, length-drop, drop-drop, drop_at}
 use Rattle.std.proofs.lemmas.Bool.{eq-eqb, ne_eqb}
 use Rattle.fixed_bytes.specs.Numbers.{big_endian, value}
@@ -9,11 +9,11 @@ use Rattle.words.specs.declared.fault.Fault.TheVariants.{BadLength, TooManyCiphe
 use Rattle.words.specs.Choice.{proper}
 use Rattle.words.specs.Registry.{kind_hello}
 use Rattle.protocol.specs.Words.{Hello}
-use Rattle.formats.specs.Reading.{alone, and_then, part, number, kind, done, listing}
-use Rattle.formats.specs.Encoding.{listed_bytes, hello_bytes, hello_length}
+use Rattle.formats.specs.Reading.{alone, and_then, part, number, done, listing}
+use Rattle.formats.specs.Encoding.{hello_bytes, hello_length}
 use Rattle.formats.specs.Decoding.{names, keys, hello_front, read_hello}
-use Rattle.formats.specs.Whole.{Bytes, Sized, WholeHello}
-use Rattle.formats.proofs.Stages.{ok_same, not_alone, fault_alone, must_true, must_false, part_at, part_whole, part_short, then_ok, by_then, by_part, by_kind, by_done}
+use Rattle.formats.specs.Whole.{Bytes, WholeHello}
+use Rattle.formats.proofs.Stages.{ok_same, not_alone, fault_alone, must_true, must_false, part_at, part_whole, part_short, then_ok, by_then, by_part, by_kind}
 use Rattle.formats.proofs.Ciphers.{ListingRead, listing_is, listing_back}
 use Rattle.formats.proofs.Digits.{number_is, number_fits}
 use Rattle.fixed_bytes.proofs.Numbers.{value_back}

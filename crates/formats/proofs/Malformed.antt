@@ -1,5 +1,5 @@
 -- Whatever reading a word refuses is malformed. Assumes nothing.
-use Rattle.std.proofs.Common.{◌≡◌, ℕ, zero, suc, Bool, true, false, cond, not, eqb, ltb, leb, List, [], ◌∷◌, ◌++◌, length, take, drop, Some, None, Ok, Err, Option, Result, sym, refl, ap, ◌∙◌, arith}
+use Rattle.std.proofs.Common.{◌≡◌, ℕ, zero, suc, Bool, true, false, cond, not, eqb, ltb, leb, List, [], ◌∷◌, ◌++◌, length, take, drop, Some, None, Ok, Err, Option, Result, sym, refl, ap, ◌∙◌}
 use Rattle.words.specs.declared.fault.Fault.{Fault}
 use Rattle.words.specs.declared.fault.Fault.TheVariants.{UnknownKind, BadLength, NoCipher, TooManyCiphers, CipherTwice}
 use Rattle.words.specs.declared.registry.Kind.{Kind}
@@ -10,7 +10,7 @@ use Rattle.words.specs.Faults.{fault_number}
 use Rattle.words.specs.Numbers.{malformed}
 use Rattle.words.specs.Registry.{kind_hello, kind_reply, kind_end}
 use Rattle.fixed_bytes.specs.Numbers.{value}
-use Rattle.protocol.specs.Words.{Hello, Body, Reply, Word, a_hello, a_reply, an_end}
+use Rattle.protocol.specs.Words.{Hello, a_hello, a_reply, an_end}
 use Rattle.formats.specs.Reading.{with, and_then, must, byte, part, number, kind, done, behind_length, more_ciphers, listing}
 use Rattle.formats.specs.Decoding.{names, keys, hello_front, read_hello, answer, read_reply, lockable, read_end, read_as, read_word}
 use Rattle.formats.specs.Laws.{OnlyMalformed}

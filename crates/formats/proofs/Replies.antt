@@ -1,19 +1,19 @@
 -- Replies and ends: what is read was written so, and what is written is read back. Assumes nothing.
-use Rattle.std.proofs.Common.{◌≡◌, ℕ, ◌+◌, ◌-◌, ◌^◌, ◌<◌, ◌≤◌, true, ◌&&◌, eqb, leb, List, [], ◌∷◌, ◌++◌, length, take, drop, Ok, Err, Result, sym, refl, ap, ◌∙◌, subst, ap₂, append_assoc, arith, length-append}
+use Rattle.std.proofs.Common.{◌≡◌, ℕ, ◌+◌, ◌^◌, ◌<◌, ◌≤◌, eqb, leb, List, [], ◌∷◌, ◌++◌, length, take, drop, Ok, Err, Result, sym, refl, ap, ◌∙◌, subst, ap₂, append_assoc, arith, length-append}
 use Rattle.std.proofs.ByRecursion.{All-drop}
-use Rattle.std.proofs.lemmas.List.{append-nil, take-append-drop, length-take-le, length-drop, take_at, drop_at}
+use Rattle.std.proofs.lemmas.List.{append-nil, take-append-drop, length-take-le}
 use Rattle.std.proofs.lemmas.Bool.{eqb-true, eq-eqb, and_parts, leb-true}
 use Rattle.fixed_bytes.specs.Numbers.{big_endian, value}
 use Rattle.words.specs.declared.fault.Fault.{Fault}
 use Rattle.words.specs.declared.fault.Fault.TheVariants.{BadLength}
 use Rattle.words.specs.Choice.{most_ciphers}
 use Rattle.words.specs.Registry.{kind_reply, kind_end}
-use Rattle.words.proofs.Listing.{Proper, proper_parts}
+use Rattle.words.proofs.Listing.{proper_parts}
 use Rattle.protocol.specs.Words.{Hello, Body, Reply}
-use Rattle.formats.specs.Reading.{with, alone, and_then, must, byte, part, number, kind, done, behind_length}
-use Rattle.formats.specs.Encoding.{hello_bytes, hello_length, answer_bytes, body_bytes, reply_bytes, end_bytes, signature_length}
-use Rattle.formats.specs.Decoding.{hello_front, answer, read_reply, hello_part, before_signature, last_signature, lockable, read_end}
-use Rattle.formats.specs.Whole.{Bytes, Sized, WholeHello, WholeBody, WholeReply, WholeEnd}
+use Rattle.formats.specs.Reading.{with, alone, and_then, must, part, number, done, behind_length}
+use Rattle.formats.specs.Encoding.{hello_bytes, hello_length, answer_bytes, reply_bytes, end_bytes, signature_length}
+use Rattle.formats.specs.Decoding.{hello_front, answer, read_reply, hello_part, lockable, read_end}
+use Rattle.formats.specs.Whole.{Bytes, WholeHello, WholeBody, WholeReply, WholeEnd}
 use Rattle.formats.proofs.Stages.{ok_same, not_alone, fault_alone, part_at, part_next, part_short, must_true, then_ok, by_then, by_must, by_byte, by_part, by_kind, by_done}
 use Rattle.formats.proofs.Digits.{number_is, number_fits}
 use Rattle.fixed_bytes.proofs.Numbers.{value_back}

@@ -1,22 +1,21 @@
 -- All three words: read one way, no cut and nothing longer taken, and what is signed. Assumes nothing.
-use Rattle.std.proofs.Common.{◌≡◌, ℕ, ◌+◌, ◌-◌, ◌*◌, ◌/◌, ◌%◌, ◌^◌, ◌<◌, ◌≤◌, true, false, cond, eqb, List, [], ◌∷◌, ◌++◌, length, get_or, take, drop, replicate, Some, None, Ok, Err, Option, Result, sym, refl, ap, ◌∙◌, subst, ap₂, append_assoc, mod-lt, arith, lit<, length-append}
+use Rattle.std.proofs.Common.{◌≡◌, ℕ, ◌+◌, ◌-◌, ◌*◌, ◌/◌, ◌%◌, ◌^◌, ◌<◌, cond, eqb, List, [], ◌∷◌, ◌++◌, length, get_or, take, drop, replicate, Some, None, Ok, Err, Option, Result, sym, refl, ap, ◌∙◌, subst, ap₂, append_assoc, mod-lt, arith, lit<, length-append}
 use Rattle.std.proofs.ByRecursion.{All-append, All-take, All-from_get_or}
 use Rattle.std.proofs.lemmas.List.{append-nil, take-append-drop, length-drop, nil_from_length, take_at, drop_at, get_or-replicate}
-use Rattle.fixed_bytes.specs.Numbers.{big_endian, value}
+use Rattle.fixed_bytes.specs.Numbers.{big_endian}
 use Rattle.words.specs.declared.fault.Fault.{Fault}
 use Rattle.words.specs.declared.fault.Fault.TheVariants.{UnknownKind}
 use Rattle.words.specs.declared.registry.Kind.{Kind}
 use Rattle.words.specs.declared.registry.Kind.TheVariants.{Hello as KindHello, Reply as KindReply, End as KindEnd, Record as KindRecord, Settings as KindSettings}
 use Rattle.words.specs.Bytes.{kind_of}
-use Rattle.words.specs.Faults.{fault_number}
 use Rattle.words.specs.Numbers.{malformed}
 use Rattle.words.specs.Registry.{kind_hello, kind_reply, kind_end}
 use Rattle.protocol.specs.Got.{No}
 use Rattle.protocol.specs.Words.{Hello, Body, Reply, Word, a_hello, a_reply, an_end}
-use Rattle.formats.specs.Reading.{with, and_then, done, behind_length}
-use Rattle.formats.specs.Encoding.{hello_bytes, hello_length, answer_bytes, body_bytes, reply_bytes, claim_bytes, end_bytes, word_bytes, signature_length, tag_length}
+use Rattle.formats.specs.Reading.{with, and_then, done}
+use Rattle.formats.specs.Encoding.{hello_bytes, hello_length, answer_bytes, body_bytes, reply_bytes, word_bytes, signature_length}
 use Rattle.formats.specs.Decoding.{hello_front, read_hello, read_reply, hello_part, before_signature, last_signature, read_end, read_as, read_word, got}
-use Rattle.formats.specs.Whole.{Bytes, Sized, WholeHello, WholeBody, WholeReply, WholeEnd, Whole}
+use Rattle.formats.specs.Whole.{Bytes, Sized, WholeHello, WholeBody, WholeReply, Whole}
 use Rattle.formats.specs.Laws.{OnlyMalformed, BytesAreReadOneWay, SignedBytesAreApart, PartsAreAsWritten}
 use Rattle.formats.proofs.Stages.{err_ok, ok_same, with_ok, by_then, by_done, by_byte}
 use Rattle.fixed_bytes.proofs.Numbers.{value_back}

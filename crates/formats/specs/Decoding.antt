@@ -8,7 +8,7 @@ use Rattle.words.specs.Bytes.{kind_of}
 use Rattle.words.specs.Faults.{fault_number}
 use Rattle.words.specs.Registry.{kind_hello, kind_reply, kind_end}
 use Rattle.protocol.specs.Got.{Got, No, Yes}
-use Rattle.protocol.specs.Words.{Hello, Body, Reply, Word, a_hello, a_reply, an_end}
+use Rattle.protocol.specs.Words.{Hello, Reply, Word, a_hello, a_reply, an_end}
 use Rattle.formats.specs.Encoding.{hello_length, signature_length}
 use Rattle.formats.specs.Reading.{with, and_then, must, byte, part, number, kind, done, behind_length, listing}
 

@@ -1,5 +1,5 @@
 -- The three words as bytes, field after field. Assumes nothing.
-use Rattle.std.specs.Prelude.{ℕ, ◌+◌, List, [], ◌∷◌, ◌++◌, length}
+use Rattle.std.specs.Prelude.{ℕ, ◌+◌, List, ◌∷◌, ◌++◌, length}
 use Rattle.fixed_bytes.specs.Numbers.{big_endian}
 use Rattle.words.specs.Registry.{kind_hello, kind_reply, kind_end, mark_end}
 use Rattle.protocol.specs.Words.{Hello, Body, Reply, Word, a_hello, a_reply, an_end}

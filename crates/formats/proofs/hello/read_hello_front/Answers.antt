@@ -1,4 +1,4 @@
-use Rattle.std.proofs.Common.{sym, ap, ◌∙◌, arith}
+use Rattle.std.proofs.Common.{◌∙◌, arith}
 use Rattle.words.specs.Listed.{listed}
 use Rattle.formats.proofs.Hellos.{list_fits, nonce_cut, half_cut, front_found}
 use Rattle.formats.proofs.hello.read_hello_front.Goals as goal
