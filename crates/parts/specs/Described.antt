@@ -1,5 +1,5 @@
 -- What is shown of some bytes, by their kind, or why they are refused. Assumes nothing.
-use Rattle.std.specs.Prelude.{ℕ, List, [], Some, None, Ok, Err, codes, Option, Result}
+use Rattle.std.specs.Prelude.{ℕ, List, [], Some, None, Err, codes, Option, Result}
 use Rattle.words.specs.declared.fault.Fault.{Fault}
 use Rattle.words.specs.declared.fault.Fault.TheVariants.{UnknownKind}
 use Rattle.words.specs.declared.registry.Kind.{Kind}

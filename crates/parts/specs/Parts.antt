@@ -1,5 +1,5 @@
 -- The parts of words, records and settings as lines of text. Assumes nothing.
-use Rattle.std.specs.Prelude.{ℕ, zero, suc, ◌/◌, List, [], ◌∷◌, ◌++◌, length, take, drop, codes}
+use Rattle.std.specs.Prelude.{ℕ, zero, suc, ◌/◌, List, length, take, drop, codes}
 use Rattle.protocol.specs.Words.{Hello, Reply}
 use Rattle.record_formats.specs.Records.{Record}
 use Rattle.parts.specs.Lines.{number_on, bytes_on, title_on, numbers_on}

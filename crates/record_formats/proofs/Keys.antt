@@ -1,5 +1,5 @@
 -- Settings: what is read was written so, and what is written is read back. Assumes nothing.
-use Rattle.std.proofs.Common.{◌≡◌, ℕ, ◌+◌, ◌-◌, ◌*◌, ◌/◌, ◌%◌, ◌^◌, ◌<◌, ◌≤◌, Bool, true, false, cond, ◌&&◌, eqb, ltb, leb, List, [], ◌∷◌, ◌++◌, length, take, drop, Some, None, Ok, Err, Option, Result, sym, refl, ap, ◌∙◌, subst, ap₂, append_assoc, arith, length-append}
+use Rattle.std.proofs.Common.{◌≡◌, ℕ, ◌+◌, ◌-◌, ◌*◌, ◌/◌, ◌%◌, ◌<◌, ◌≤◌, true, cond, eqb, ltb, leb, List, ◌∷◌, ◌++◌, length, take, drop, Some, None, Ok, Err, Result, sym, refl, ap, ◌∙◌, subst, ap₂, arith, length-append}
 use Rattle.std.proofs.ByRecursion.{All-drop}
 use Rattle.std.proofs.lemmas.List.{length-drop, length-take-le, take-append-drop, drop_at, take_at}
 use Rattle.std.proofs.lemmas.Bool.{lt-ltb, ltb-true, leb-true, le-leb, eqb-true, eq-eqb, and_parts, and_from}
@@ -9,7 +9,7 @@ use Rattle.words.specs.declared.fault.Fault.{Fault}
 use Rattle.words.specs.declared.fault.Fault.TheVariants.{BadLength, SettingsUnknownSide, SettingsTooManySides, SettingsTooManyCiphers, SettingsCipherTwice}
 use Rattle.words.specs.Registry.{kind_settings}
 use Rattle.formats.specs.Reading.{alone, and_then, must, number, listing}
-use Rattle.formats.specs.Whole.{Bytes, Sized}
+use Rattle.formats.specs.Whole.{Bytes}
 use Rattle.formats.proofs.Stages.{ok_same, not_alone, must_true, part_at, then_ok, by_then, by_must, by_part, by_kind}
 use Rattle.formats.proofs.Ciphers.{listing_is, listing_back}
 use Rattle.formats.proofs.Digits.{number_is}

@@ -1,5 +1,5 @@
 -- Records: what is read was written so, what is written is read back, and nothing cut or longer is taken. Assumes nothing.
-use Rattle.std.proofs.Common.{◌≡◌, ℕ, zero, suc, ◌+◌, ◌-◌, ◌*◌, ◌/◌, ◌%◌, ◌^◌, ◌<◌, ◌≤◌, Bool, true, ◌&&◌, eqb, leb, List, [], ◌∷◌, ◌++◌, length, get_or, take, drop, Ok, Err, Result, sym, refl, ap, ◌∙◌, subst, ap₂, append_assoc, mod-lt, arith, lit<, length-append}
+use Rattle.std.proofs.Common.{◌≡◌, ℕ, zero, suc, ◌+◌, ◌-◌, ◌/◌, ◌%◌, ◌^◌, ◌<◌, ◌≤◌, eqb, leb, List, [], ◌∷◌, ◌++◌, length, take, drop, Ok, Err, Result, sym, refl, ap, ◌∙◌, subst, ap₂, append_assoc, mod-lt, arith, lit<, length-append}
 use Rattle.std.proofs.ByRecursion.{All-append, All-take, All-drop}
 use Rattle.std.proofs.lemmas.List.{append-nil, take-append-drop, length-take-le, length-drop, nil_from_length, drop_at, drop-drop}
 use Rattle.std.proofs.lemmas.Bool.{eqb-true, eq-eqb, and_parts, and_from, leb-true, le-leb}
@@ -7,19 +7,16 @@ use Rattle.fixed_bytes.specs.Numbers.{big_endian, value}
 use Rattle.fixed_bytes.proofs.Numbers.{value_back}
 use Rattle.words.specs.declared.fault.Fault.{Fault}
 use Rattle.words.specs.declared.fault.Fault.TheVariants.{BadLength, UnknownKind}
-use Rattle.words.specs.Numbers.{malformed}
 use Rattle.words.specs.Registry.{kind_record}
-use Rattle.protocol.specs.Got.{No}
 use Rattle.formats.specs.Encoding.{tag_length}
-use Rattle.formats.specs.Decoding.{got}
 use Rattle.formats.specs.Laws.{OnlyMalformed}
-use Rattle.formats.specs.Reading.{must, part, number, kind}
-use Rattle.formats.specs.Whole.{Bytes, Sized}
+use Rattle.formats.specs.Reading.{must, part, number}
+use Rattle.formats.specs.Whole.{Bytes}
 use Rattle.formats.proofs.Stages.{ok_same, must_true, part_at, part_next, part_short, by_must, by_part, by_kind}
 use Rattle.formats.proofs.Digits.{number_is, number_fits}
 use Rattle.formats.proofs.Malformed.{taken, at_must, at_part, at_kind, at_number}
 use Rattle.formats.proofs.Words.{got_malformed}
-use Rattle.record_formats.specs.Records.{Record, record_bytes, sendable, read_record, closable, WholeRecord}
+use Rattle.record_formats.specs.Records.{Record, record_bytes, sendable, read_record, WholeRecord}
 use Rattle.record_formats.specs.Laws.{RecordsAreReadOneWay}
 
 -- a record from its length on, from its number on, and from its session on

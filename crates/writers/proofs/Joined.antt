@@ -1,12 +1,12 @@
 -- Fields written one after another are the whole. Assumes nothing.
-use Rattle.std.proofs.Common.{◌≡◌, ℕ, ◌+◌, ◌-◌, ◌≤◌, true, List, [], ◌∷◌, ◌++◌, length, sym, refl, ap, ◌∙◌, ap₂, append_assoc, arith, length-append}
+use Rattle.std.proofs.Common.{◌≡◌, ℕ, ◌+◌, ◌-◌, ◌≤◌, true, List, [], ◌∷◌, ◌++◌, length, ap, ◌∙◌, ap₂, append_assoc, arith, length-append}
 use Rattle.fixed_bytes.specs.Numbers.{big_endian}
 use Rattle.words.specs.Choice.{proper}
-use Rattle.words.proofs.Listing.{Proper, proper_parts}
+use Rattle.words.proofs.Listing.{proper_parts}
 use Rattle.words.specs.Registry.{kind_hello, kind_reply, kind_record, kind_settings}
 use Rattle.protocol.specs.Words.{Hello, Body}
 use Rattle.formats.specs.Encoding.{listed_bytes, hello_bytes, answer_bytes, body_bytes, signature_length, tag_length}
-use Rattle.record_formats.specs.Records.{Record, record_bytes}
+use Rattle.record_formats.specs.Records.{record_bytes}
 use Rattle.record_formats.specs.Settings.{Settings, settings_bytes}
 use Rattle.writers.specs.Written.{tag_room}
 

@@ -1,4 +1,4 @@
-use Rattle.std.proofs.Common.{◌≡◌, ◌/◌, ◌%◌, ◌<◌, [], ◌∷◌, ◌++◌, get_or, take, sym, ap, ◌∙◌, subst, ap₂, arith}
+use Rattle.std.proofs.Common.{◌/◌, ◌%◌, ◌<◌, [], ◌∷◌, ◌++◌, get_or, take, sym, ap, ◌∙◌, subst, ap₂, arith}
 use Rattle.std.proofs.lemmas.List.{take_all}
 use Rattle.std.proofs.lemmas.Slice.{pushed}
 use Rattle.parts.specs.Lines.{hex_digits}
@@ -9,7 +9,7 @@ pub loop-byte-preserved : goal.loop-byte-preserved
 loop-byte-preserved c =
     let bs = c.args.bytes.now in
     let i = c.loop-byte.byte-index in
-    let byte : get_or bs i 0 < 256 = omega (arith, c.type-inv.bytes i) in
+    let byte : get_or bs i 0 < 256 = omega (arith, c.type_inv.bytes i) in
     let high : c.hex_digit.result < 128 = subst (λ n. n < 128) (sym c.hex_digit.ensures) (glyph_small (get_or bs i 0 / 16) (omega arith)) in
     let low : c.hex_digit-in-loop-byte.result < 128 = subst (λ n. n < 128) (sym c.hex_digit-in-loop-byte.ensures) (glyph_small (get_or bs i 0 % 16) (omega arith)) in
     let one = pushed _ c.loop-byte.invariant c.in_ok-push.was c.push.ensures.bytes in

@@ -1,4 +1,4 @@
-use Rattle.std.proofs.Common.{◌≡◌, ◌+◌, drop, string_bytes, sym, ap, ◌∙◌}
+use Rattle.std.proofs.Common.{◌+◌, drop, string_bytes, sym, ap, ◌∙◌}
 use Rattle.words.specs.Ciphers.{numbers}
 use Rattle.parts.specs.Lines.{number_on, numbers_on}
 use Rattle.parts.proofs.Texts.{numbers_next, numbers_done}

@@ -1,4 +1,4 @@
-use Rattle.std.proofs.Common.{◌≡◌, string_bytes, codes, ap, ◌∙◌, ap₂}
+use Rattle.std.proofs.Common.{string_bytes, codes, ap, ◌∙◌, ap₂}
 use Rattle.parts.specs.Lines.{number_on, bytes_on}
 use Rattle.parts.proofs.shown.with_answer.Goals as goal
 

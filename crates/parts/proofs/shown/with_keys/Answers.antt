@@ -1,4 +1,4 @@
-use Rattle.std.proofs.Common.{◌≡◌, ◌+◌, ◌-◌, ◌*◌, ◌/◌, ◌<◌, length, string_bytes, codes, sym, ap, ◌∙◌, ap₂, arith}
+use Rattle.std.proofs.Common.{◌+◌, ◌-◌, ◌/◌, length, string_bytes, codes, sym, ap, ◌∙◌, ap₂, arith}
 use Rattle.parts.specs.Lines.{bytes_on}
 use Rattle.parts.specs.Parts.{keys_on}
 use Rattle.parts.proofs.Texts.{key_next, keys_done}

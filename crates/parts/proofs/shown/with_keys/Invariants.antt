@@ -1,5 +1,5 @@
 -- What is left gives the whole text.
-use Rattle.std.proofs.Common.{◌≡◌, ◌+◌, ◌-◌, ◌*◌, ◌/◌, length, string_bytes}
+use Rattle.std.proofs.Common.{◌≡◌, ◌+◌, ◌-◌, ◌*◌, length, string_bytes}
 use Rattle.parts.specs.Parts.{keys_on}
 use Rattle.parts.proofs.shown.with_keys.Given as goal
 

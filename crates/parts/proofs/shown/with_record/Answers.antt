@@ -1,4 +1,4 @@
-use Rattle.std.proofs.Common.{◌≡◌, codes, ap, ◌∙◌}
+use Rattle.std.proofs.Common.{codes, ap, ◌∙◌}
 use Rattle.parts.specs.Lines.{number_on, bytes_on}
 use Rattle.parts.proofs.shown.with_record.Goals as goal
 

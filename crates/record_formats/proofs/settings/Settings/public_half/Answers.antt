@@ -1,5 +1,4 @@
-use Rattle.std.proofs.Common.{◌*◌, ◌<◌, length, sym, ap, ◌∙◌, subst}
-use Rattle.record_formats.specs.Settings.{half_at}
+use Rattle.std.proofs.Common.{◌*◌, ◌<◌, length, sym, subst}
 use Rattle.record_formats.proofs.Keys.{no_half}
 use Rattle.record_formats.proofs.settings.Settings.public_half.Goals as goal
 
