@@ -1,5 +1,5 @@
 -- Rounds, one line after the other. Assumes nothing.
-use Rattle.std.proofs.Common.{◌≡◌, ℕ, ◌+◌, List, get_or, set, sym, refl, ap, ◌∙◌, add-one}
+use Rattle.std.proofs.Common.{◌≡◌, ℕ, ◌+◌, List, get_or, set, refl, ap, ◌∙◌, add-one}
 use Rattle.ciphers.specs.ChaCha20.{mixed, quarter_round, quarter_at, double_round, double_rounds}
 
 -- the four lines of a quarter round

@@ -1,6 +1,6 @@
 -- Comparing tags byte by byte, without an early exit. Assumes nothing.
-use Rattle.std.proofs.Common.{◌≡◌, ℕ, ◌+◌, ◌<◌, true, eqb, List, length, get_or, Decides, sym, refl, ap, ◌∙◌, arith, ext_get_or, below_more}
-use lib.Bits.{bit_and, bit_or, bit_xor, or_add_and, or_comm, and_le_l, and_comm, xor_assoc, xor_self, xor_zero_l, xor_zero_r}
+use Rattle.std.proofs.Common.{◌≡◌, ℕ, ◌+◌, eqb, List, length, get_or, Decides, sym, ap, ◌∙◌, arith, ext_get_or, below_more}
+use lib.Bits.{bit_or, bit_xor, or_add_and, and_le_l, and_comm, xor_assoc, xor_self, xor_zero_l, xor_zero_r}
 use Rattle.std.proofs.lemmas.Bool.{eqb-true, eq-eqb}
 use Rattle.ciphers.specs.Closing.{SameUpTo}
 

@@ -1,8 +1,8 @@
 -- Turning block by block, and turning back. Assumes nothing.
-use Rattle.std.proofs.Common.{◌≡◌, ℕ, ◌+◌, ◌-◌, ◌*◌, ◌/◌, ◌%◌, ◌<◌, ◌≤◌, min, ◌⊎◌, List, length, get_or, sym, refl, ap, ◌∙◌, inl, inr, arith, ext_get_or}
+use Rattle.std.proofs.Common.{◌≡◌, ℕ, ◌+◌, ◌-◌, ◌*◌, ◌/◌, ◌%◌, ◌<◌, ◌≤◌, min, ◌⊎◌, List, length, get_or, sym, ap, ◌∙◌, inl, inr, arith, ext_get_or}
 use lib.Bits.{bit_xor, xor_assoc, xor_self, xor_zero_r}
 use Rattle.std.proofs.lemmas.Bool.{cases_lt}
-use Rattle.ciphers.specs.ChaCha20.{initial, block_byte, stream_byte, turned_byte, Turned, TurnedTo, BlockTurned, TurnedTwiceUnchanged, TurnedApart}
+use Rattle.ciphers.specs.ChaCha20.{initial, block_byte, stream_byte, turned_byte, TurnedTo, BlockTurned, TurnedTwiceUnchanged, TurnedApart}
 
 -- the bytes of one block more
 pub one_block_more : (key : List ℕ) (counter : ℕ) (nonce before s t stream : List ℕ) (i end : ℕ) → TurnedTo key counter nonce before s (min (length before) (64 * i)) → BlockTurned stream s t (64 * i) end → end ≡ min (length s) (64 * i + 64) → 64 * i ≤ length s → ((j : ℕ) → j < 64 → get_or stream j 0 ≡ block_byte (initial key (counter + i) nonce) j) → TurnedTo key counter nonce before t (min (length before) (64 * (i + 1)))

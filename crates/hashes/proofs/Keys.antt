@@ -1,13 +1,12 @@
 -- The blocks that a key is made into, and what is taken behind them. Assumes nothing.
-use Rattle.std.proofs.Common.{◌≡◌, ℕ, zero, suc, ◌+◌, ◌-◌, ◌*◌, ◌/◌, ◌%◌, ◌^◌, ◌<◌, ◌≤◌, Bool, true, false, cond, ltb, List, [], ◌∷◌, ◌++◌, map, length, get_or, take, drop, set, replicate, sym, refl, ap, ◌∙◌, subst, ⊎_elim, append_assoc, arith, length-append}
+use Rattle.std.proofs.Common.{◌≡◌, ℕ, zero, ◌+◌, ◌-◌, ◌<◌, ◌≤◌, ltb, List, [], ◌∷◌, ◌++◌, length, get_or, take, drop, set, replicate, sym, refl, ap, ◌∙◌, subst, ⊎_elim, append_assoc, arith, length-append}
 use lib.Bits.{bit_xor}
 use lib.ListN.{length-replicate, length-map}
 use Rattle.std.proofs.lemmas.List.{append-nil, drop-replicate, map_more, take_more_set}
 use Rattle.std.proofs.lemmas.Bool.{cases_Bool, cond-true, cond-false, ltb-true, ltb-false, lt-ltb, le-ltb}
-use Rattle.sha256.specs.declared.state.State.{State}
 use Rattle.hashes.specs.declared.hasher.Hasher.{Hasher}
 use Rattle.hashes.specs.Hmac.{filled_up, key_block, masked, inner_pad, outer_pad, hmac_sha256}
-use Rattle.sha256.specs.Sha256.{initial, compressed, state_bytes, sha256}
+use Rattle.sha256.specs.Sha256.{state_bytes, sha256}
 use Rattle.hashes.specs.Streams.{Holds}
 
 pub length_sha256 : (m : List ℕ) → length (sha256 m) ≡ 32

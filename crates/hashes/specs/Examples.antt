@@ -1,5 +1,5 @@
 -- Worked examples of the standards. Assumes nothing.
-use Rattle.std.specs.Prelude.{◌≡◌, ℕ, List, [], ◌∷◌, codes}
+use Rattle.std.specs.Prelude.{◌≡◌, [], ◌∷◌, codes}
 use Rattle.hashes.specs.Hmac.{hmac_sha256}
 use Rattle.sha256.specs.Sha256.{sha256}
 

@@ -1,5 +1,5 @@
 -- HMAC-SHA-256 as RFC 6234 (section 8.3) and RFC 2104 define it, for a key of any length. Assumes nothing.
-use Rattle.std.specs.Prelude.{ℕ, ◌-◌, cond, List, [], ◌∷◌, ◌++◌, map, length, replicate, bit_xor, nat_lt}
+use Rattle.std.specs.Prelude.{ℕ, ◌-◌, cond, List, ◌++◌, map, length, replicate, bit_xor, nat_lt}
 use Rattle.sha256.specs.Sha256.{sha256}
 
 -- a key of at most a block, with zeros behind it

@@ -1,6 +1,6 @@
 -- Two shorter ways to compute a choice and a majority give the same bits. Assumes nothing.
-use Rattle.std.proofs.Common.{◌≡◌, ℕ, zero, suc, ◌+◌, ◌-◌, ◌*◌, ◌/◌, ◌%◌, ◌^◌, ◌<◌, sym, refl, ap, ◌∙◌, subst, pow-suc, arith, pow_pos}
-use lib.Bits.{bit_and, bit_or, bit_xor, and_shr, xor_shr, and_mod, xor_mod, and_zero_l, and_zero_r, xor_zero_r}
+use Rattle.std.proofs.Common.{◌≡◌, ℕ, zero, suc, ◌+◌, ◌-◌, ◌*◌, ◌/◌, ◌%◌, ◌^◌, ◌<◌, refl, ◌∙◌, pow-suc, arith}
+use lib.Bits.{bit_and, bit_xor, and_shr, xor_shr, and_mod, xor_mod, and_zero_l}
 
 -- what holds of both bits holds of a number below two
 by_bit : (P : ℕ → Type 0) → P 0 → P 1 → (x : ℕ) → x < 2 → P x

@@ -1,8 +1,8 @@
 -- How words, schedules and rounds split, and the order of a round's sum. Assumes nothing.
-use Rattle.std.proofs.Common.{◌≡◌, ℕ, zero, suc, ◌+◌, ◌*◌, ◌%◌, ◌^◌, ◌<◌, ◌≤◌, List, [], ◌∷◌, ◌++◌, length, get_or, take, drop, sym, refl, ap, ◌∙◌, subst, append_assoc, add-zero, add-suc, suc-add, zero-add, add-one, arith, length-append, length-drop}
+use Rattle.std.proofs.Common.{◌≡◌, ℕ, zero, suc, ◌+◌, ◌*◌, ◌<◌, ◌≤◌, List, [], ◌∷◌, ◌++◌, length, get_or, take, drop, sym, refl, ap, ◌∙◌, suc-add, zero-add, arith, length-append}
 use Rattle.std.proofs.lemmas.List.{drop-drop, take-append-le, take_all}
 use Rattle.sha256.specs.declared.state.State.{State}
-use Rattle.sha256.specs.Sha256.{next_word, slid, slid_by, schedule, sums, round, rounds, added, compressed, constants}
+use Rattle.sha256.specs.Sha256.{slid, slid_by, schedule, sums, round, rounds, added, compressed, constants}
 use Rattle.sha256.specs.Words.{plus, choice, majority, big_sigma0, big_sigma1, first_word, words}
 
 -- a round whose sum is taken in another order is the same

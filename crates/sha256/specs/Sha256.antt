@@ -1,5 +1,5 @@
 -- SHA-256 as RFC 6234 defines it (sections 4.1, 5.1 and 6): of a list of bytes of any length. Assumes nothing.
-use Rattle.std.specs.Prelude.{ℕ, zero, suc, ◌+◌, ◌-◌, ◌*◌, ◌/◌, ◌%◌, ◌^◌, List, [], ◌∷◌, ◌++◌, length, take, drop, replicate, slice_index}
+use Rattle.std.specs.Prelude.{ℕ, zero, suc, ◌-◌, ◌*◌, ◌/◌, ◌%◌, ◌^◌, List, [], ◌∷◌, ◌++◌, length, take, drop, replicate, slice_index}
 use Rattle.sha256.specs.declared.state.State.{State}
 use Rattle.sha256.specs.Words.{plus, choice, majority, big_sigma0, big_sigma1, small_sigma0, small_sigma1, word_bytes, words}
 

@@ -1,5 +1,5 @@
 -- Words of 32 bits and the six functions on them, as RFC 6234 writes them (sections 2, 3 and 5.1). Assumes nothing.
-use Rattle.std.specs.Prelude.{ℕ, zero, suc, ◌+◌, ◌-◌, ◌*◌, ◌/◌, ◌%◌, ◌^◌, List, [], ◌∷◌, ◌++◌, drop, bit_and, bit_or, bit_xor, slice_index}
+use Rattle.std.specs.Prelude.{ℕ, zero, suc, ◌+◌, ◌-◌, ◌*◌, ◌/◌, ◌%◌, ◌^◌, List, [], ◌∷◌, drop, bit_and, bit_or, bit_xor, slice_index}
 
 -- a sum modulo 2^32
 abbrev pub plus : ℕ → ℕ → ℕ

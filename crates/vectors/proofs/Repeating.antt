@@ -1,5 +1,5 @@
 -- A part once more. Assumes nothing.
-use Rattle.std.proofs.Common.{◌≡◌, ℕ, ◌+◌, List, [], ◌++◌, sym, refl, subst, add-one}
+use Rattle.std.proofs.Common.{ℕ, ◌+◌, List, [], ◌++◌, add-one}
 use Rattle.hashes.specs.declared.hasher.Hasher.{Hasher}
 use Rattle.hashes.specs.Streams.{Holds}
 use Rattle.vectors.specs.Repeated.{repeated}

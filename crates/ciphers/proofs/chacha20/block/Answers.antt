@@ -1,4 +1,4 @@
-use Rattle.std.proofs.Common.{◌≡◌, refl, ap, ◌∙◌, ap₂}
+use Rattle.std.proofs.Common.{ap, ◌∙◌, ap₂}
 use Rattle.ciphers.specs.ChaCha20.{double_rounds, sum_byte}
 use Rattle.ciphers.proofs.chacha20.block.Goals as goal
 

@@ -1,4 +1,4 @@
-use Rattle.std.proofs.Common.{◌≡◌, sym, refl, ap, ◌∙◌}
+use Rattle.std.proofs.Common.{sym}
 use Rattle.ciphers.proofs.Rounds.{rounds_none, rounds_more}
 use Rattle.ciphers.proofs.chacha20.rounds.Goals as goal
 

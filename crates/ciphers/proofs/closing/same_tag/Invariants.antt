@@ -1,4 +1,3 @@
-use Rattle.std.proofs.Common.{◌≡◌, ℕ, ◌<◌, get_or}
 use Rattle.ciphers.specs.Closing.{SameUpTo}
 use Rattle.ciphers.proofs.closing.same_tag.Given as goal
 

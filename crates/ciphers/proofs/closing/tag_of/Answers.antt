@@ -1,5 +1,4 @@
-use Rattle.std.proofs.Common.{◌≡◌, ℕ, List, [], ◌++◌, take, sym, refl, ap, ◌∙◌}
-use Rattle.hashes.specs.Hmac.{hmac_sha256}
+use Rattle.std.proofs.Common.{ℕ, List, [], ◌++◌, take, ap, ◌∙◌}
 use Rattle.ciphers.proofs.closing.tag_of.Goals as goal
 
 pub returns : goal.returns

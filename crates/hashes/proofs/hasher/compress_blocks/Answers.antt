@@ -1,4 +1,4 @@
-use Rattle.std.proofs.Common.{◌/◌, ◌≤◌, length, sym, refl, ap, ◌∙◌, arith}
+use Rattle.std.proofs.Common.{◌/◌, ◌≤◌, length, sym, ap, ◌∙◌, arith}
 use Rattle.sha256.specs.Sha256.{blocks}
 use Rattle.hashes.proofs.Blocks.{blocks_next, blocks_none}
 use Rattle.hashes.proofs.hasher.compress_blocks.Goals as goal

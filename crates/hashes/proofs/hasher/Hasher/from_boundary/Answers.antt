@@ -1,4 +1,3 @@
-use Rattle.std.proofs.Common.{◌++◌}
 use Rattle.hashes.proofs.Holding.{holds_both}
 use Rattle.hashes.proofs.hasher.Hasher.from_boundary.Goals as goal
 

@@ -1,4 +1,4 @@
-use Rattle.std.proofs.Common.{sym, refl, ◌∙◌}
+use Rattle.std.proofs.Common.{sym, ◌∙◌}
 use Rattle.std.proofs.lemmas.Bool.{ltb-true, ltb-false}
 use Rattle.hashes.proofs.Ending.{ends_in_one, ends_in_two}
 use Rattle.hashes.proofs.hasher.Hasher.last_state.Goals as goal
