@@ -1,5 +1,5 @@
 -- Closing under a key with a number and a head, as lists of bytes: encrypt, then the tag over the head and the encrypted bytes. Assumes nothing.
-use Rattle.std.specs.Prelude.{◌≡◌, ℕ, ◌+◌, ◌-◌, ◌/◌, ◌%◌, ◌<◌, Bool, true, false, ◌&&◌, List, [], ◌∷◌, ◌++◌, length, take, drop, bit_xor, nat_le}
+use Rattle.std.specs.Prelude.{◌≡◌, ℕ, ◌+◌, ◌-◌, Bool, true, false, ◌&&◌, List, [], ◌∷◌, ◌++◌, length, take, drop, bit_xor, nat_le}
 use Rattle.fixed_bytes.specs.Numbers.{big_endian}
 use Rattle.hashes.specs.Hmac.{hmac_sha256}
 use Rattle.keystream.specs.ChaCha20.{stream_byte, suffices}

@@ -1,5 +1,5 @@
 -- Words of several blocks side by side: each lane goes as one word does. Assumes nothing.
-use Rattle.std.proofs.Common.{◌≡◌, ℕ, ◌+◌, ◌-◌, ◌*◌, ◌/◌, ◌%◌, ◌^◌, ◌<◌, List, [], ◌∷◌, map, length, get_or, set, replicate, sym, refl, ap, ◌∙◌, ap₂, arith}
+use Rattle.std.proofs.Common.{◌≡◌, ℕ, ◌-◌, ◌*◌, ◌/◌, ◌%◌, ◌^◌, ◌<◌, List, [], ◌∷◌, map, length, get_or, set, replicate, sym, ap, ◌∙◌, ap₂, arith}
 use lib.Bits.{bit_or, bit_xor}
 use lib.Lanes.{zip2}
 use lib.LanesLaws.{length-zip2}

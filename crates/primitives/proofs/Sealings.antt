@@ -5,7 +5,7 @@ use borrow.Rule.Slice.PartMut.{post_of}
 use Rattle.aead.specs.Closing.{closed, content, fits, Tagged, Closing, Opening, Behind}
 use Rattle.aead.proofs.Closings.{short, fits_room, closed_opens, only_closed_opens, closed_apart}
 use Rattle.primitives.specs.Group.{GroupModel, half, Commutes, Sized}
-use Rattle.primitives.specs.Seals.{seal_key, sealing_key, opening_key, sealed, front_half, behind_half, seal_content, Sealing, SealFits, Unsealing, SealedOpens, OnlySealedOpens, SealedApart}
+use Rattle.primitives.specs.Seals.{seal_key, sealing_key, opening_key, sealed, front_half, behind_half, seal_content, Sealing, SealFits, Unsealing, OnlySealedOpens, SealedApart}
 use Rattle.primitives.specs.declared.seals.NotOpened.{NotOpened}
 use Rattle.primitives.specs.declared.seals.NotOpened.TheVariants.{Shut, OpenedByOne}
 

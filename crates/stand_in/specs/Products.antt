@@ -1,5 +1,5 @@
 -- Products of 64-bit numbers, as bytes. Assumes nothing.
-use Rattle.std.specs.Prelude.{List, ◌++◌, ◌≡◌, refl, ℕ, ◌+◌, ◌-◌, ◌*◌, ◌/◌, ◌%◌, ◌^◌, length, drop}
+use Rattle.std.specs.Prelude.{List, ◌≡◌, refl, ℕ, ◌+◌, ◌-◌, ◌*◌, ◌/◌, ◌%◌, ◌^◌, length, drop}
 use Rattle.std.proofs.Common.{sym, ap, ◌∙◌, mul_assoc, mul-add, mul_left_comm, mul-zero, div-add-mod', arith, length-drop, drop_at}
 use Rattle.std.proofs.Math.Nat.{mod-mod, mul-add-mod_self_right}
 use Rattle.fixed_bytes.specs.Numbers.{big_endian, value}

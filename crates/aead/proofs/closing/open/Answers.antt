@@ -1,4 +1,4 @@
-use Rattle.std.proofs.Common.{true, false, sym, refl, ◌∙◌, arith}
+use Rattle.std.proofs.Common.{false, sym, refl, ◌∙◌, arith}
 use mathlib.Core.Bool.{false≢true}
 use Rattle.aead.proofs.Closings.{fits_is, fits_room, opening_done}
 use Rattle.aead.proofs.closing.open.Goals as goal

@@ -1,6 +1,5 @@
-use Rattle.std.proofs.Common.{true, false, sym, ◌∙◌}
-use mathlib.Core.Bool.{false≢true}
-use Rattle.aead.proofs.Closings.{tagged_decided, never_tagged, short}
+use Rattle.std.proofs.Common.{sym}
+use Rattle.aead.proofs.Closings.{tagged_decided}
 use Rattle.aead.proofs.closing.opens.Goals as goal
 
 pub returns : goal.returns

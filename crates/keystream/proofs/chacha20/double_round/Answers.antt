@@ -1,4 +1,4 @@
-use Rattle.std.proofs.Common.{◌≡◌, map, length, ◌∙◌, arith}
+use Rattle.std.proofs.Common.{◌≡◌, map, ◌∙◌, arith}
 use lib.ListN.{length-map}
 use Rattle.keystream.proofs.Rounds.{backwards, any_order}
 use Rattle.keystream.proofs.chacha20.double_round.Goals as goal

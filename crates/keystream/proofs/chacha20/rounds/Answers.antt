@@ -1,4 +1,4 @@
-use Rattle.std.proofs.Common.{◌≡◌, map, sym}
+use Rattle.std.proofs.Common.{map, sym}
 use Rattle.keystream.proofs.Rounds.{rounds_none, rounds_more}
 use Rattle.keystream.proofs.chacha20.rounds.Goals as goal
 

@@ -1,5 +1,5 @@
 use Rattle.std.proofs.Common.{◌≡◌, refl, ap, ◌∙◌}
-use Rattle.primitives.specs.Seals.{front_half, opening_key}
+use Rattle.primitives.specs.Seals.{front_half}
 use Rattle.primitives.proofs.Sealings.{no_half, not_one, opening_key_is, opening_done, opening_refused}
 use Rattle.primitives.proofs.seals.open_seal.Goals as goal
 

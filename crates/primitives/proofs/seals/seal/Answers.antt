@@ -1,4 +1,4 @@
-use Rattle.std.proofs.Common.{true, sym, refl, ap, ◌∙◌, arith}
+use Rattle.std.proofs.Common.{sym, refl, ap, ◌∙◌, arith}
 use Rattle.primitives.proofs.Sealings.{whole_same, half_room, not_one, sealing_key_is, sealing_done}
 use Rattle.primitives.proofs.seals.seal.Goals as goal
 

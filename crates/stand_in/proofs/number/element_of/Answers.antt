@@ -1,6 +1,5 @@
-use mathlib.Core.List.{◌++◌, [], append-nil}
+use mathlib.Core.List.{◌++◌, append-nil}
 use mathlib.Core.Path.{ap, ◌∙◌}
-use lib.ListN.{replicate}
 use Rattle.fixed_bytes.specs.Zeros.{zeros}
 use Rattle.stand_in.proofs.number.element_of.Goals as goal
 

@@ -1,4 +1,4 @@
-use Rattle.std.proofs.Common.{◌≡◌, ℕ, List, [], ◌++◌, take, ap, ◌∙◌}
+use Rattle.std.proofs.Common.{ℕ, List, [], ◌++◌, take, ap, ◌∙◌}
 use mathlib.Core.Logic.{∥∥₁_elim}
 use base.Stored.{coded_list, coded_ℕ}
 use denote.Struct.Props.{≡_prop}

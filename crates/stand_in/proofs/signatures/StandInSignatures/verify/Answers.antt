@@ -1,4 +1,4 @@
-use mathlib.Core.Path.{ap, ap₂, ◌∙◌}
+use mathlib.Core.Path.{ap₂, ◌∙◌}
 use Rattle.fixed_bytes.specs.Same.{same}
 use Rattle.fixed_bytes.proofs.Sameness.{decided}
 use Rattle.stand_in.proofs.signatures.StandInSignatures.verify.Goals as goal
