@@ -1,12 +1,12 @@
 -- Whole words: those whose fields have their lengths and ranges, so that they can be written and read back. Assumes nothing.
 use Rattle.std.specs.Prelude.{◌≡◌, ℕ, ◌^◌, ◌<◌, true, List, length}
-use Rattle.std.specs.List.{AllByRecursion as All}
+use Rattle.std.specs.List.{AllByRecursion}
 use Rattle.words.specs.Choice.{proper}
 use Rattle.protocol.specs.Words.{Hello, Body, Reply, Word, a_hello, a_reply, an_end}
 use Rattle.formats.specs.Decoding.{lockable}
 
 abbrev pub Bytes : List ℕ → Type 0
-Bytes bs = All (λ b. b < 256) bs
+Bytes bs = AllByRecursion (λ b. b < 256) bs
 
 -- so many bytes
 pub record Sized (n : ℕ) (bs : List ℕ) : Type 0 where

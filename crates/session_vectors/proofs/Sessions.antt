@@ -1,5 +1,5 @@
 -- What is computed of a worked session. Assumes nothing.
-use Rattle.std.proofs.Common.{◌≡◌, ℕ, ◌-◌, Bool, true, List, [], ◌++◌, length, take, drop, replicate, Ok, sym, refl, ap, ◌∙◌, ap₂, arith, length-append, take_at, drop_at}
+use Rattle.std.proofs.Common.{◌≡◌, ℕ, ◌-◌, Bool, true, List, ◌++◌, length, take, drop, Ok, refl, ap, ◌∙◌, ap₂, arith, length-append, take_at, drop_at}
 use Rattle.aead.specs.Closing.{content}
 use Rattle.primitives.specs.Group.{half}
 use Rattle.primitives.specs.Seals.{sealed, seal_content, Sealing}

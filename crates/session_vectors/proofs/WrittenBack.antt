@@ -1,5 +1,5 @@
 -- Bytes of a vector that were turned through a slice. Assumes nothing.
-use Rattle.std.proofs.Common.{◌≡◌, ℕ, true, List, ◌++◌, length, take, drop, sym, refl, ap, ◌∙◌, subst}
+use Rattle.std.proofs.Common.{◌≡◌, ℕ, true, List, ◌++◌, length, take, drop, sym, ap, ◌∙◌, subst}
 use lib.Seq.{take-append_seam}
 use Rattle.keystream.specs.ChaCha20.{Turning}
 
