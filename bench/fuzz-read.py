@@ -1,19 +1,19 @@
 #!/usr/bin/env python3
 """Random and mutated words through `read`, compared line by line with a reader of its own.
 
-Run at the root of the repository, after `rt check read`:
+Run at the root of the repository, after `(cd crates/read && rt run < /dev/null)`, which builds it:
 
     python3 bench/fuzz-read.py [HOW_MANY] [SEED]
 
 It takes whole words, records and settings from crates/read/stdin, changes, cuts, joins and lengthens them,
-adds random ones, and gives them to target/bin/read in batches. A crash, a batch that takes longer than a minute,
+adds random ones, and gives them to crates/read/out/read in batches. A crash, a batch that takes longer than a minute,
 or a line that is not what the reader below expects ends it with status 1.
 """
 import random
 import subprocess
 import sys
 
-READ = "target/bin/read"
+READ = "crates/read/out/read"
 BATCH = 20000
 
 

@@ -1,5 +1,5 @@
 #!/bin/sh
-# Builds the hashes, the keystream and the ciphers as static libraries, checks each against OpenSSL's and prints how fast it is beside others'.
+# Builds the hashes, the keystream and the authenticated encryption as static libraries, checks each against OpenSSL's and prints how fast it is beside others'.
 #   bench/run.sh [hashes | keystream | ciphers]..     (none named: all)
 # It is no part of the check. Wanted: a C compiler, and Debian's libssl-dev, libsodium-dev and libmbedtls-dev.
 set -eu
@@ -12,8 +12,14 @@ for header in openssl/evp.h sodium.h mbedtls/sha256.h; do
 done
 [ $# -gt 0 ] || set -- hashes keystream ciphers
 if [ -r /proc/cpuinfo ]; then sed -n 's/^model name[^:]*: //p' /proc/cpuinfo | head -n 1; fi
+mkdir -p target/staticlib
 for name; do
-    rt staticlib "$name" >/dev/null
+    case $name in
+        ciphers) crate=aead_c ;;
+        *) crate=${name}_c ;;
+    esac
+    (cd "crates/$crate" && rt lib >/dev/null)
+    cp "crates/$crate/out/lib$crate.a" "target/staticlib/lib$name.a"
     cc -O2 -Wall -Wno-deprecated-declarations -o "target/bench-$name" "bench/$name.c" "target/staticlib/lib$name.a" -lcrypto -lsodium -lmbedcrypto
     printf '\n'
     "target/bench-$name"

@@ -2,6 +2,6 @@
 #![tactic(auto)]
 
 pub mod failure;
+pub mod messages;
 pub mod record;
 pub mod settings;
-pub mod words;

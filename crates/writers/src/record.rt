@@ -4,7 +4,7 @@ ghost use Rattle.record_formats.specs.Records.{sendable, record_bytes};
 ghost use Rattle.writers.specs.Written.{Writes, tag_room};
 
 use crate::failure::NotWritten;
-use crate::words::two_bytes;
+use crate::messages::two_bytes;
 use fixed_bytes::number::eight_bytes;
 use std::alloc::Global;
 use words::registry::Kind;

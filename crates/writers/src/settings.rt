@@ -5,7 +5,7 @@ ghost use Rattle.record_formats.specs.Settings.{settings_bytes};
 ghost use Rattle.writers.specs.Written.{settings_fit, Writes};
 
 use crate::failure::NotWritten;
-use crate::words::{two_bytes, write_ciphers};
+use crate::messages::{two_bytes, write_ciphers};
 use std::alloc::Global;
 use words::preferences::Preferences;
 use words::registry::Kind;

@@ -2,7 +2,7 @@ use Rattle.std.proofs.Common.{◌∙◌}
 use Rattle.std.proofs.lemmas.Slice.{pushed}
 use Rattle.formats.specs.Views.{as_hello}
 use Rattle.writers.proofs.Joined.{hello_joined}
-use Rattle.writers.proofs.words.write_hello.Goals as goal
+use Rattle.writers.proofs.messages.write_hello.Goals as goal
 
 pub returns : goal.returns
 returns c =

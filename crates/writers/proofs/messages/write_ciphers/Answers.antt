@@ -2,7 +2,7 @@ use Rattle.std.proofs.Common.{[], ◌∷◌, ◌++◌, length, take, sym, ap, �
 use Rattle.std.proofs.lemmas.List.{map_more, take_all}
 use Rattle.std.proofs.lemmas.Slice.{pushed}
 use Rattle.words.specs.Ciphers.{numbers}
-use Rattle.writers.proofs.words.write_ciphers.Goals as goal
+use Rattle.writers.proofs.messages.write_ciphers.Goals as goal
 
 pub loop-cipher-init : goal.loop-cipher-init
 loop-cipher-init c =

@@ -2,7 +2,7 @@ use Rattle.std.proofs.Common.{length, ap, ◌∙◌, arith}
 use Rattle.std.proofs.lemmas.Slice.{pushed}
 use Rattle.formats.specs.Views.{as_hello, as_body}
 use Rattle.writers.proofs.Joined.{body_joined, body_long, hello_short}
-use Rattle.writers.proofs.words.write_body.Goals as goal
+use Rattle.writers.proofs.messages.write_body.Goals as goal
 
 pub overflow_cast-length : goal.overflow_cast-length
 overflow_cast-length c =
