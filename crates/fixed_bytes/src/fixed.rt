@@ -1,5 +1,5 @@
 // Values of a fixed size that everybody may see.
-ghost use Rattle.std.specs.Prelude.{◌≡◌, length, bytes_eq};
+ghost use Rattle.std.specs.Prelude.{◌≡◌, length, bytes_eq, Decides};
 ghost use Rattle.std.specs.Cmp.Rules.{comparing};
 ghost use Rattle.std.proofs.Common.{rules};
 ghost use Rattle.std.specs.Ordering.{on};
@@ -33,7 +33,10 @@ impl<const N: usize> PartialEq for Fixed<N> {
 
     ghost laws = { Keys.partial_equiv_from_equiv (Prim.search (comparing, rules)) };
 
-    fn eq(&self, other: &Fixed<N>) -> bool {
+    fn eq(&self, other: &Fixed<N>) -> bool
+        ensures value { result ≡ bytes_eq self.now.bytes other.now.bytes }
+        ensures same { Decides result (self.now.bytes ≡ other.now.bytes) }
+    {
         same_bytes(&self.bytes, &other.bytes)
     }
 }

@@ -1,5 +1,5 @@
 // Values that nobody else may see: they can be neither copied nor shown, and are overwritten when they are let go.
-ghost use Rattle.std.specs.Prelude.{◌≡◌, length, bytes_eq};
+ghost use Rattle.std.specs.Prelude.{◌≡◌, length, bytes_eq, Decides};
 ghost use Rattle.fixed_bytes.specs.Zeros.{zeros};
 ghost use Rattle.std.specs.Cmp.Rules.{comparing};
 ghost use Rattle.std.proofs.Common.{rules};
@@ -53,7 +53,10 @@ impl PartialEq for Secret {
 
     ghost laws = { Keys.partial_equiv_from_equiv (Prim.search (comparing, rules)) };
 
-    fn eq(&self, other: &Secret) -> bool {
+    fn eq(&self, other: &Secret) -> bool
+        ensures value { result ≡ bytes_eq self.now.bytes other.now.bytes }
+        ensures same { Decides result (self.now.bytes ≡ other.now.bytes) }
+    {
         same_bytes(&self.bytes, &other.bytes)
     }
 }

@@ -30,7 +30,10 @@ impl PartialEq for Cipher {
 
     ghost laws = { Keys.partial_equiv_from_equiv (Prim.search (comparing, rules)) };
 
-    fn eq(&self, other: &Cipher) -> bool {
+    fn eq(&self, other: &Cipher) -> bool
+        ensures value { result ≡ nat_eq self.now.number other.now.number }
+        ensures same { Decides result (self.now ≡ other.now) }
+    {
         self.number == other.number
     }
 }
