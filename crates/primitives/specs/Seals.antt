@@ -48,7 +48,7 @@ SealFits g key bs = Tagged (opening_key g key (front_half bs)) [] (behind_half b
 
 -- opening in place: what stands behind the half is opened. Refused is what doesn't open, and then the group's one as a common element; refused bytes stay as they were
 abbrev pub Unsealing : GroupModel → List ℕ → List ℕ → List ℕ → Result (Unit {0}) NotOpened → Type 0
-Unsealing g key before after (Ok _) = (g.raise key (front_half before) ≢ g.one) × Behind half_length (λ closed-part opened-part. Opening (opening_key g key (front_half before)) 0 [] closed-part opened-part true) before after
+Unsealing g key before after (Ok _) = (g.raise key (front_half before) ≢ g.one) × Behind half_length (λ closed_part opened_part. Opening (opening_key g key (front_half before)) 0 [] closed_part opened_part true) before after
 Unsealing g key before after (Err Shut) = (SealFits g key before → ⊥) × (after ≡ before)
 Unsealing g key before after (Err OpenedByOne) = (g.raise key (front_half before) ≡ g.one) × SealFits g key before × (after ≡ before)
 
