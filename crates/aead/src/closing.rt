@@ -1,7 +1,8 @@
 // Closing and opening in place: ChaCha20, and a tag by HMAC-SHA-256 over a head and the encrypted bytes.
 ghost use Rattle.std.specs.Prelude.{◌≡◌, is_ok, Decides};
-ghost use Rattle.keystream.specs.ChaCha20.{suffices, Turning};
-ghost use Rattle.aead.specs.Closing.{nonce_of, Closing, Tagged, Opening, Behind, ClosedOpens, OnlyClosedOpens, ClosedApart};
+ghost use Rattle.ciphers.specs.ChaCha20.{suffices, Turning};
+ghost use Rattle.ciphers.specs.Closing.{nonce_of, Closing, Tagged, Opening, ClosedOpens, OnlyClosedOpens, ClosedApart};
+ghost use Rattle.aead.specs.Behind.{Behind};
 
 use crate::key::ClosingKey;
 use fixed_bytes::compare::same_bytes;

@@ -1,7 +1,7 @@
 // What C links: a key to keep, and closing and opening in place under it.
 ghost use Rattle.std.specs.Prelude.{◌≡◌};
 ghost use Rattle.fixed_bytes.specs.Zeros.{zeros};
-ghost use Rattle.aead.specs.Closing.{Closing, Opening};
+ghost use Rattle.ciphers.specs.Closing.{Closing, Opening};
 
 use crate::closing::{close, open};
 use crate::key::ClosingKey;

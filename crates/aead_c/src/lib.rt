@@ -2,7 +2,7 @@
 #![tactic(auto)]
 
 ghost use Rattle.std.specs.Prelude.{◌≡◌};
-ghost use Rattle.aead.specs.Closing.{Closing, Opening};
+ghost use Rattle.ciphers.specs.Closing.{Closing, Opening};
 ghost use Rattle.fixed_bytes.specs.Zeros.{zeros};
 
 use aead::exports;

@@ -10,7 +10,7 @@ put_one f out a b h below e =
     (get_or-set_same out a b 0 h ∙ e)
 
 -- four places more
-put_four : (f : ℕ → ℕ) (out : List ℕ) (a p q r s : ℕ) → a + 3 < length out → ((k : ℕ) → k < a → get_or out k 0 ≡ f k) → p ≡ f a → q ≡ f (a + 1) → r ≡ f (a + 2) → s ≡ f (a + 3) → (k : ℕ) → k < a + 4 → get_or (set (set (set (set out a p) (a + 1) q) (a + 2) r) (a + 3) s) k 0 ≡ f k
+pub put_four : (f : ℕ → ℕ) (out : List ℕ) (a p q r s : ℕ) → a + 3 < length out → ((k : ℕ) → k < a → get_or out k 0 ≡ f k) → p ≡ f a → q ≡ f (a + 1) → r ≡ f (a + 2) → s ≡ f (a + 3) → (k : ℕ) → k < a + 4 → get_or (set (set (set (set out a p) (a + 1) q) (a + 2) r) (a + 3) s) k 0 ≡ f k
 put_four f out a p q r s h below e g i j =
     let one = put_one f out a p (omega arith) below e in
     let two = put_one f (set out a p) (a + 1) q (simp length-set (omega arith)) one g in
@@ -18,10 +18,10 @@ put_four f out a p q r s h below e g i j =
     λ k l. put_one f (set (set (set out a p) (a + 1) q) (a + 2) r) (a + 3) s (simp length-set (omega arith)) (λ k l. three k (omega arith)) j k (omega arith)
 
 -- the place of byte n of word i
-quotient : (i n : ℕ) → n < 4 → (4 * i + n) / 4 ≡ i
+pub quotient : (i n : ℕ) → n < 4 → (4 * i + n) / 4 ≡ i
 quotient i n h = omega arith
 
-rest : (i n : ℕ) → n < 4 → (4 * i + n) % 4 ≡ n
+pub rest : (i n : ℕ) → n < 4 → (4 * i + n) % 4 ≡ n
 rest i n h = omega arith
 
 word_byte : (a b : List ℕ) (i n m : ℕ) → n < 4 → m ≡ plus (get_or a i 0) (get_or b i 0) / 256 ^ n % 256 → m ≡ sum_byte a b (4 * i + n)

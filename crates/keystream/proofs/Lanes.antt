@@ -7,8 +7,8 @@ use lib.ListN.{get_or-replicate}
 use lib.Seq.{map-set}
 use Rattle.std.proofs.lemmas.Simd.{get_or-zip2}
 use Rattle.std.proofs.lemmas.List.{get_or-map}
-use Rattle.keystream.specs.ChaCha20.{plus, turned, mixed, quarter_at, word_at, initial}
-use Rattle.keystream.proofs.Rounds.{quarter_lines}
+use Rattle.ciphers.specs.ChaCha20.{plus, turned, mixed, quarter_at, word_at, initial}
+use Rattle.ciphers.proofs.Rounds.{quarter_lines}
 
 -- four words of a state mixed in each lane
 pub lane_quarter : {A : Type 0} (f : A → ℕ) (s : List A) (i j k l : ℕ) (p q r t u : A) (x y z w : A × A) → i < length s → j < length s → k < length s → l < length s → (f x.0, f x.1) ≡ mixed 16 (f (get_or s i p)) (f (get_or s j q)) (f (get_or s l r)) → (f y.0, f y.1) ≡ mixed 12 (f (get_or s k t)) (f x.1) (f (get_or s j u)) → (f z.0, f z.1) ≡ mixed 8 (f x.0) (f y.1) (f x.1) → (f w.0, f w.1) ≡ mixed 7 (f y.0) (f z.1) (f y.1) → map f (set (set (set (set s i z.0) j w.1) k w.0) l z.1) ≡ quarter_at i j k l (map f s)

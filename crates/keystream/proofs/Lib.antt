@@ -1,4 +1,3 @@
-pub mod Spelled
 pub mod Rounds
 pub mod Lanes
 pub mod Bytes

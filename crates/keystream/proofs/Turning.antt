@@ -1,8 +1,9 @@
 -- Turning block by block, and turning back. Assumes nothing.
-use Rattle.std.proofs.Common.{◌≡◌, ℕ, ◌+◌, ◌-◌, ◌*◌, ◌/◌, ◌%◌, ◌<◌, ◌≤◌, min, ◌⊎◌, List, length, get_or, sym, ap, ◌∙◌, subst, ap₂, inl, inr, arith, ext_get_or}
-use lib.Bits.{bit_xor, xor_assoc, xor_self, xor_zero_r}
+use Rattle.std.proofs.Common.{◌≡◌, ℕ, ◌+◌, ◌-◌, ◌*◌, ◌/◌, ◌%◌, ◌<◌, ◌≤◌, min, ◌⊎◌, List, length, get_or, ap, ◌∙◌, subst, ap₂, inl, inr, arith}
+use lib.Bits.{bit_xor}
 use Rattle.std.proofs.lemmas.Bool.{cases_lt}
-use Rattle.keystream.specs.ChaCha20.{initial, double_rounds, sum_byte, block_byte, stream_byte, Turned, PartTurned, TurnedTwiceUnchanged, TurnedApart}
+use Rattle.ciphers.specs.ChaCha20.{initial, double_rounds, sum_byte, block_byte, stream_byte, Turned}
+use Rattle.keystream.specs.Parts.{PartTurned}
 
 -- a part more, turned by what the stream has next
 pub part_more : (f g : ℕ → ℕ) (before s t : List ℕ) (at a b : ℕ) → ((j : ℕ) → j < b → g j ≡ f (a + j)) → PartTurned f before s at (min (length before) (at + a)) → PartTurned g s t (at + a) (min (length s) (at + a + b)) → PartTurned f before t at (min (length before) (at + (a + b)))
@@ -69,17 +70,3 @@ stream_whole key counter nonce before after n h P = record {
   len = P.len;
   each = λ p l. let start : p - 0 ≡ p = omega arith in P.each p (omega arith) (omega arith) ∙ ap (λ q. bit_xor (get_or before p 0) (stream_byte key counter nonce q)) start;
 }
-
-xor_back : (x y : ℕ) → bit_xor (bit_xor x y) y ≡ x
-xor_back x y = xor_assoc x y y ∙ ap (bit_xor x) (xor_self y) ∙ xor_zero_r x
-
-pub turned_twice : TurnedTwiceUnchanged
-turned_twice key counter nonce a b c T U =
-    ext_get_or 0 c a (U.len ∙ T.len)
-    (λ p h. let m = T.len in let n = U.len in let inside : p < length a = omega arith in let within : p < length b = omega arith in U.each p within ∙ ap (λ x. bit_xor x (stream_byte key counter nonce p)) (T.each p inside) ∙ xor_back (get_or a p 0) (stream_byte key counter nonce p))
-
--- turned back, both are the same
-pub turned_apart : TurnedApart
-turned_apart key counter nonce a b c T U =
-    ext_get_or 0 a b (sym T.len ∙ U.len)
-    (λ p h. let m = T.len in let n = U.len in let within : p < length b = omega arith in sym (xor_back (get_or a p 0) (stream_byte key counter nonce p)) ∙ ap (λ x. bit_xor x (stream_byte key counter nonce p)) (sym (T.each p h) ∙ U.each p within) ∙ xor_back (get_or b p 0) (stream_byte key counter nonce p))

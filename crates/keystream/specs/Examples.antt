@@ -1,6 +1,6 @@
 -- Worked examples of RFC 8439. Assumes nothing.
 use Rattle.std.specs.Prelude.{◌≡◌, ℕ, List, [], ◌∷◌, map}
-use Rattle.keystream.specs.ChaCha20.{quarter_round, quarter_at, initial, double_rounds, stream_byte}
+use Rattle.ciphers.specs.ChaCha20.{quarter_round, quarter_at, initial, double_rounds, stream_byte}
 
 -- the key 00 01 .. 1f
 abbrev pub key : List ℕ

@@ -1,2 +1,2 @@
-pub mod ChaCha20
+pub mod Parts
 pub mod Examples

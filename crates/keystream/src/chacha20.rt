@@ -1,6 +1,7 @@
 // ChaCha20 as in RFC 8439: rounds of additions and turns on 32-bit words, with sums that wrap on purpose; four blocks at once where there are four.
 ghost use Rattle.std.specs.Prelude.{◌≡◌, ℕ, ◌+◌, ◌*◌, ◌/◌, ◌%◌, ◌^◌, ◌<◌, ◌≤◌, min, true, ◌&&◌, map, length, is_ok, nat_le, slice_index};
-ghost use Rattle.keystream.specs.ChaCha20.{quarter_at, double_round, double_rounds, word_at, initial, sum_byte, block_byte, stream_byte, PartTurned, Turning, TurnedTwiceUnchanged, TurnedApart};
+ghost use Rattle.ciphers.specs.ChaCha20.{quarter_at, double_round, double_rounds, word_at, initial, sum_byte, block_byte, stream_byte, Turning, TurnedTwiceUnchanged, TurnedApart};
+ghost use Rattle.keystream.specs.Parts.{PartTurned};
 
 use crate::word::Word;
 use std::simd::prelude::*;

@@ -1,5 +1,5 @@
 // What C links: bytes turned in place by ChaCha20's keystream.
-ghost use Rattle.keystream.specs.ChaCha20.{Turning};
+ghost use Rattle.ciphers.specs.ChaCha20.{Turning};
 
 use crate::chacha20::turn;
 

@@ -1,6 +1,6 @@
 // A word of ChaCha20's state, of one block or of four blocks side by side: each lane is a block's word.
 ghost use Rattle.std.specs.Prelude.{◌≡◌, ℕ, ◌+◌, ◌^◌, ◌<◌, ◌≤◌, slice_index};
-ghost use Rattle.keystream.specs.ChaCha20.{mixed};
+ghost use Rattle.ciphers.specs.ChaCha20.{mixed};
 
 use std::simd::prelude::*;
 

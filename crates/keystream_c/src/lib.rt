@@ -1,7 +1,7 @@
 // What C links of the keystream: bytes turned in place.
 #![tactic(auto)]
 
-ghost use Rattle.keystream.specs.ChaCha20.{Turning};
+ghost use Rattle.ciphers.specs.ChaCha20.{Turning};
 
 use keystream::exports;
 use keystream::exports::{Key, Nonce};

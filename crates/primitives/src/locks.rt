@@ -1,6 +1,7 @@
 // Locking with a session secret, in place.
 ghost use Rattle.std.specs.Prelude.{◌≡◌, [], is_ok};
-ghost use Rattle.aead.specs.Closing.{Closing, Opening, Behind};
+ghost use Rattle.ciphers.specs.Closing.{Closing, Opening};
+ghost use Rattle.aead.specs.Behind.{Behind};
 ghost use Rattle.primitives.specs.Derived.{lock_key};
 
 use crate::sums::derive;

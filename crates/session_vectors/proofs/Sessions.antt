@@ -1,6 +1,6 @@
 -- What is computed of a worked session. Assumes nothing.
 use Rattle.std.proofs.Common.{◌≡◌, ℕ, ◌-◌, Bool, true, List, ◌++◌, length, take, drop, Ok, refl, ap, ◌∙◌, ap₂, arith, length-append, take_at, drop_at}
-use Rattle.aead.specs.Closing.{content}
+use Rattle.ciphers.specs.Closing.{content}
 use Rattle.primitives.specs.Group.{half}
 use Rattle.primitives.specs.Seals.{sealed, seal_content, Sealing}
 use Rattle.stand_in.specs.StandIn.{stand_in_group, stand_in_signatures}

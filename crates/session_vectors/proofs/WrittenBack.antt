@@ -1,7 +1,7 @@
 -- Bytes of a vector that were turned through a slice. Assumes nothing.
 use Rattle.std.proofs.Common.{◌≡◌, ℕ, true, List, ◌++◌, length, take, drop, sym, ap, ◌∙◌, subst}
 use lib.Seq.{take-append_seam}
-use Rattle.keystream.specs.ChaCha20.{Turning}
+use Rattle.ciphers.specs.ChaCha20.{Turning}
 
 pub turned_back : (key : List ℕ) (counter : ℕ) (nonce text before after old : List ℕ) (size : ℕ) → before ≡ text → size ≡ length text → Turning key counter nonce before after true → Turning key counter nonce text (take size (after ++ drop (length after) old)) true
 turned_back key counter nonce text before after old size e s T =

@@ -1,7 +1,7 @@
 // The vectors of RFC 8439 for ChaCha20: the block function (2.3.2), encryption (2.4.2), and appendices A.1 and A.2.
 // A block of the keystream is what zeros are encrypted to.
 ghost use Rattle.std.specs.Prelude.{true, false, IfOk, MatchOption};
-ghost use Rattle.keystream.specs.ChaCha20.{Turning};
+ghost use Rattle.ciphers.specs.ChaCha20.{Turning};
 
 use keystream::chacha20::turn;
 use std::alloc::{AllocError, Global};

@@ -1,3 +1,3 @@
 mod BitLaws
 mod Rounds
-mod WrittenOut
+pub mod WrittenOut

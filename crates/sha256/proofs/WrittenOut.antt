@@ -6,7 +6,7 @@ use Rattle.sha256.specs.Sha256.{next_word, slid, slid_by, sums, round, rounds, c
 use Rattle.sha256.specs.Words.{plus}
 
 -- a list of sixteen, element by element
-spelled : (xs : List ℕ) → length xs ≡ 16 → xs ≡ get_or xs 0 0 ∷ get_or xs 1 0 ∷ get_or xs 2 0 ∷ get_or xs 3 0 ∷ get_or xs 4 0 ∷ get_or xs 5 0 ∷ get_or xs 6 0 ∷ get_or xs 7 0 ∷ get_or xs 8 0 ∷ get_or xs 9 0 ∷ get_or xs 10 0 ∷ get_or xs 11 0 ∷ get_or xs 12 0 ∷ get_or xs 13 0 ∷ get_or xs 14 0 ∷ get_or xs 15 0 ∷ []
+pub spelled : (xs : List ℕ) → length xs ≡ 16 → xs ≡ get_or xs 0 0 ∷ get_or xs 1 0 ∷ get_or xs 2 0 ∷ get_or xs 3 0 ∷ get_or xs 4 0 ∷ get_or xs 5 0 ∷ get_or xs 6 0 ∷ get_or xs 7 0 ∷ get_or xs 8 0 ∷ get_or xs 9 0 ∷ get_or xs 10 0 ∷ get_or xs 11 0 ∷ get_or xs 12 0 ∷ get_or xs 13 0 ∷ get_or xs 14 0 ∷ get_or xs 15 0 ∷ []
 spelled ([]) h = absurd (omega arith)
 spelled (x0 ∷ []) h = absurd (omega arith)
 spelled (x0 ∷ x1 ∷ []) h = absurd (omega arith)

@@ -1,6 +1,6 @@
 // Tags under a kept key.
 ghost use Rattle.std.specs.Prelude.{◌≡◌};
-ghost use Rattle.aead.specs.Closing.{tag};
+ghost use Rattle.ciphers.specs.Closing.{tag};
 
 use crate::key::ClosingKey;
 

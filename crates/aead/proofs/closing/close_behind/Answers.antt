@@ -1,5 +1,5 @@
 use Rattle.std.proofs.Common.{is_ok, refl}
-use Rattle.aead.specs.Closing.{Closing}
+use Rattle.ciphers.specs.Closing.{Closing}
 use Rattle.aead.proofs.Closings.{behind, nothing_behind}
 use Rattle.aead.proofs.closing.close_behind.Goals as goal
 

@@ -1,4 +1,4 @@
-use Rattle.aead.proofs.Closings.{closed_apart}
+use Rattle.ciphers.proofs.Closings.{closed_apart}
 use Rattle.aead.proofs.closing.closed_apart.Goals as goal
 
 pub returns : goal.returns

@@ -1,6 +1,6 @@
 use mathlib.Core.Bool.{false≢true}
 use Rattle.std.proofs.Common.{is_ok, sym, refl, ◌∙◌}
-use Rattle.aead.specs.Closing.{Opening}
+use Rattle.ciphers.specs.Closing.{Opening}
 use Rattle.aead.proofs.Closings.{behind, nothing_behind}
 use Rattle.aead.proofs.closing.open_behind.Goals as goal
 

@@ -1,5 +1,5 @@
 use Rattle.std.proofs.Common.{subst}
-use Rattle.keystream.specs.ChaCha20.{Turned}
+use Rattle.ciphers.specs.ChaCha20.{Turned}
 use Rattle.aead.proofs.closing.turn_content.Goals as goal
 
 pub returns-in-Ok : goal.returns-in-Ok

@@ -1,5 +1,5 @@
 use Rattle.std.proofs.Common.{map, sym}
-use Rattle.keystream.proofs.Rounds.{rounds_none, rounds_more}
+use Rattle.ciphers.proofs.Rounds.{rounds_none, rounds_more}
 use Rattle.keystream.proofs.chacha20.rounds.Goals as goal
 
 pub loop-i-init : goal.loop-i-init

@@ -1,5 +1,5 @@
 use Rattle.std.proofs.Common.{◌≡◌, ℕ, ◌<◌, map}
-use Rattle.keystream.specs.ChaCha20.{double_rounds}
+use Rattle.ciphers.specs.ChaCha20.{double_rounds}
 use Rattle.keystream.proofs.chacha20.rounds.Given as goal
 
 abbrev pub invariant-loop-i : goal.invariant-loop-i

@@ -1,5 +1,5 @@
 use Rattle.std.proofs.Common.{map, arith}
-use Rattle.keystream.specs.ChaCha20.{plus}
+use Rattle.ciphers.specs.ChaCha20.{plus}
 use Rattle.keystream.proofs.Bytes.{word_written}
 use Rattle.keystream.proofs.Lanes.{lane_sum}
 use Rattle.keystream.proofs.chacha20.sum_bytes.Goals as goal

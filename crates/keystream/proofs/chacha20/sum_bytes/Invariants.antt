@@ -1,5 +1,5 @@
 use Rattle.std.proofs.Common.{◌≡◌, ℕ, ◌*◌, ◌<◌, map, length, get_or}
-use Rattle.keystream.specs.ChaCha20.{sum_byte}
+use Rattle.ciphers.specs.ChaCha20.{sum_byte}
 use Rattle.keystream.proofs.chacha20.sum_bytes.Given as goal
 
 abbrev pub invariant-loop-i : goal.invariant-loop-i

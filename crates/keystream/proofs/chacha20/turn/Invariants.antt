@@ -1,5 +1,6 @@
 use Rattle.std.proofs.Common.{◌-◌, ◌*◌, min, length}
-use Rattle.keystream.specs.ChaCha20.{stream_byte, PartTurned}
+use Rattle.ciphers.specs.ChaCha20.{stream_byte}
+use Rattle.keystream.specs.Parts.{PartTurned}
 use Rattle.keystream.proofs.chacha20.turn.Given as goal
 
 abbrev pub invariant-loop-done : goal.invariant-loop-done

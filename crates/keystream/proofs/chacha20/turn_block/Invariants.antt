@@ -1,5 +1,5 @@
 use Rattle.std.proofs.Common.{◌+◌, ◌-◌, ◌≤◌, min, length, get_or}
-use Rattle.keystream.specs.ChaCha20.{PartTurned}
+use Rattle.keystream.specs.Parts.{PartTurned}
 use Rattle.keystream.proofs.chacha20.turn_block.Given as goal
 
 abbrev pub invariant-loop-p : goal.invariant-loop-p

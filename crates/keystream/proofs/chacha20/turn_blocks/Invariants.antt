@@ -1,5 +1,5 @@
 use Rattle.std.proofs.Common.{◌+◌, ◌*◌, min, map, length}
-use Rattle.keystream.specs.ChaCha20.{PartTurned}
+use Rattle.keystream.specs.Parts.{PartTurned}
 use Rattle.keystream.proofs.Turning.{in_turn}
 use Rattle.keystream.proofs.chacha20.turn_blocks.Given as goal
 

@@ -1,4 +1,4 @@
-use Rattle.keystream.proofs.Turning.{turned_apart}
+use Rattle.ciphers.proofs.Turning.{turned_apart}
 use Rattle.keystream.proofs.chacha20.turned_apart.Goals as goal
 
 pub returns : goal.returns

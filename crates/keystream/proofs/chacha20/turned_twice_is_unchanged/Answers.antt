@@ -1,4 +1,4 @@
-use Rattle.keystream.proofs.Turning.{turned_twice}
+use Rattle.ciphers.proofs.Turning.{turned_twice}
 use Rattle.keystream.proofs.chacha20.turned_twice_is_unchanged.Goals as goal
 
 pub returns : goal.returns

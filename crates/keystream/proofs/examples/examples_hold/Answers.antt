@@ -1,5 +1,5 @@
 use Rattle.std.proofs.Common.{refl}
-use Rattle.keystream.specs.ChaCha20.{quarter_round, quarter_at, double_round, double_rounds}
+use Rattle.ciphers.specs.ChaCha20.{quarter_round, quarter_at, double_round, double_rounds}
 use Rattle.keystream.proofs.examples.examples_hold.Goals as goal
 
 pub returns : goal.returns
