@@ -1,11 +1,13 @@
 -- The first byte of each kind, mark and derivation, and that none has two purposes. Assumes nothing.
-use Rattle.std.specs.Prelude.{◌≡◌, ℕ, cond, Some, None, Option, ◌==◌, ◌≢◌}
+use Rattle.std.specs.Prelude.{◌≡◌, ℕ, cond, Some, None, Ok, Err, Option, Result, ◌==◌, ◌≢◌}
 use Rattle.words.specs.declared.registry.Kind.{Kind}
 use Rattle.words.specs.declared.registry.Kind.TheVariants.{Hello, Reply, End, Record, Settings}
 use Rattle.words.specs.declared.registry.Mark.{Mark}
 use Rattle.words.specs.declared.registry.Mark.TheVariants.{OnReply, OnEnd}
 use Rattle.words.specs.declared.registry.Derivation.{Derivation}
 use Rattle.words.specs.declared.registry.Derivation.TheVariants.{Lock, ToCalled, ToCaller}
+use Rattle.words.specs.declared.fault.Fault.{Fault}
+use Rattle.words.specs.declared.fault.Fault.TheVariants.{UnknownKind}
 use Rattle.words.specs.Registry.{kind_hello, kind_reply, kind_end, kind_record, kind_settings, mark_reply, mark_end, derive_lock, derive_to_called, derive_to_caller}
 
 abbrev pub kind_byte : Kind → ℕ
@@ -37,6 +39,16 @@ kind_of b =
 abbrev pub Names : ℕ → Option Kind → Type 0
 Names b None = (k : Kind) → kind_byte k ≢ b
 Names b (Some k) = kind_byte k ≡ b
+
+-- a kind that there must be
+abbrev pub known : Option Kind → Result Kind Fault
+known None = Err UnknownKind
+known (Some k) = Ok k
+
+-- the answer to a byte: its kind, which no other kind has, or that no kind has it
+pub record Decodes (b : ℕ) (answer : Result Kind Fault) : Type 0 where
+  pub value : answer ≡ known (kind_of b)
+  pub exact : Names b (kind_of b)
 
 -- no two of a family have one byte
 abbrev pub Apart : {X : Type 0} → (X → ℕ) → Type 0

@@ -9,7 +9,7 @@ ghost use Rattle.words.specs.Search.{Searched};
 use crate::cipher::Cipher;
 use crate::preferences::Preferences;
 
-// The first of the ranked ciphers that is offered.
+// The first of the ranked ciphers that is offered. Nested loops left by a label are a rule of the project for the choice.
 fn first_common(ranked: &[Cipher], offered: &[Cipher]) -> Option<Cipher>
     ensures { Searched ranked.now offered.now result }
 {

@@ -2,35 +2,60 @@
 ghost use Rattle.std.specs.Prelude.{◌≡◌};
 ghost use Rattle.words.specs.Faults.{fault_number};
 
-use std::fmt;
+use thiserror::Error;
 
 // Finer than the numbers that refusals are counted by, for people: several cases may have one number.
-#[derive(Clone, Copy, Debug)]
+#[derive(Clone, Copy, Debug, Error)]
 pub enum Fault {
+    #[error("unknown kind")]
     UnknownKind,
+    #[error("bad length")]
     BadLength,
+    #[error("no cipher")]
     NoCipher,
+    #[error("too many ciphers")]
     TooManyCiphers,
+    #[error("a cipher twice")]
     CipherTwice,
+    #[error("a side that isn't there")]
     UnknownSide,
+    #[error("not for this side")]
     NotForThisSide,
+    #[error("no cipher in common")]
     NothingInCommon,
+    #[error("no open call with this hello")]
     NoSuchCall,
+    #[error("a wrong signature")]
     BadSignature,
+    #[error("a choice that wasn't offered")]
     NotOffered,
+    #[error("a seal that doesn't open")]
     SealShut,
+    #[error("a common element that is the group's one")]
     CommonOne,
+    #[error("no answered session that this end is for")]
     NoAnsweredSession,
+    #[error("no ended session that this record is for")]
     NoEndedSession,
+    #[error("not that session's reply")]
     OtherReply,
+    #[error("settings of a side that isn't there")]
     SettingsUnknownSide,
+    #[error("settings with too many sides")]
     SettingsTooManySides,
+    #[error("settings with too many ciphers")]
     SettingsTooManyCiphers,
+    #[error("settings with a cipher twice")]
     SettingsCipherTwice,
+    #[error("settings whose key isn't this side's")]
     SettingsOtherKey,
+    #[error("a record out of order")]
     RecordOutOfOrder,
+    #[error("a record that doesn't open")]
     RecordShut,
+    #[error("a cipher that has no records")]
     CipherWithoutRecords,
+    #[error("every record number is used")]
     RecordsUsedUp,
 }
 
@@ -62,43 +87,5 @@ impl Fault {
             Fault::RecordOutOfOrder | Fault::RecordShut | Fault::CipherWithoutRecords => 12,
             Fault::RecordsUsedUp => 13,
         }
-    }
-
-    // The cause in words, for people.
-    fn text(self) -> &'static str {
-        match self {
-            Fault::UnknownKind => "unknown kind",
-            Fault::BadLength => "bad length",
-            Fault::NoCipher => "no cipher",
-            Fault::TooManyCiphers => "too many ciphers",
-            Fault::CipherTwice => "a cipher twice",
-            Fault::UnknownSide => "a side that isn't there",
-            Fault::NotForThisSide => "not for this side",
-            Fault::NothingInCommon => "no cipher in common",
-            Fault::NoSuchCall => "no open call with this hello",
-            Fault::BadSignature => "a wrong signature",
-            Fault::NotOffered => "a choice that wasn't offered",
-            Fault::SealShut => "a seal that doesn't open",
-            Fault::CommonOne => "a common element that is the group's one",
-            Fault::NoAnsweredSession => "no answered session that this end is for",
-            Fault::NoEndedSession => "no ended session that this record is for",
-            Fault::OtherReply => "not that session's reply",
-            Fault::SettingsUnknownSide => "settings of a side that isn't there",
-            Fault::SettingsTooManySides => "settings with too many sides",
-            Fault::SettingsTooManyCiphers => "settings with too many ciphers",
-            Fault::SettingsCipherTwice => "settings with a cipher twice",
-            Fault::SettingsOtherKey => "settings whose key isn't this side's",
-            Fault::RecordOutOfOrder => "a record out of order",
-            Fault::RecordShut => "a record that doesn't open",
-            Fault::CipherWithoutRecords => "a cipher that has no records",
-            Fault::RecordsUsedUp => "every record number is used",
-        }
-    }
-}
-
-impl fmt::Display for Fault {
-    fn fmt<W: fmt::Write>(&self, f: &mut fmt::Formatter<W>) -> fmt::Result {
-        let text = self.text();
-        write!(f, "{text}")
     }
 }

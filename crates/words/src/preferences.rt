@@ -8,6 +8,8 @@ use crate::cipher::Cipher;
 mod methods;
 
 // 1 to 16 ciphers, none twice: the first `count` of the array.
+// An array and a count, since lists are copied by value and need no heap; the clauses see it through `listed`,
+// since a Model of a type that is copied would have to give back the cells behind the count too.
 #[derive(Clone, Copy)]
 pub struct Preferences {
     ciphers: [Cipher; 16],

@@ -8,10 +8,8 @@ use std::test::Fail;
 // The ciphers from a number on, so many of them.
 fn ciphers(first: u8) -> [Cipher; 17] {
     let mut all = [Cipher::new(first); 17];
-    let mut number = first;
-    for slot in all.iter_mut() {
+    for (slot, number) in all.iter_mut().zip(first..=u8::MAX) {
         *slot = Cipher::new(number);
-        number = number.wrapping_add(1);
     }
     all
 }
