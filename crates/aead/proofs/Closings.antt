@@ -1,11 +1,12 @@
 -- What fits, what has its right tag, and what is lent behind the first bytes of a word. Assumes nothing.
-use Rattle.std.proofs.Common.{◌≡◌, ℕ, ◌+◌, ◌-◌, ◌<◌, ◌≤◌, Bool, true, false, ◌&&◌, leb, List, [], ◌++◌, length, take, drop, Decides, sym, ap, ◌∙◌, subst, append-nil, arith, length-drop, length-take-le, take_all, drop_at}
+use Rattle.std.proofs.Common.{◌≡◌, ℕ, ◌+◌, ◌-◌, ◌<◌, ◌≤◌, Bool, true, false, ◌&&◌, leb, List, [], ◌++◌, length, take, drop, Decides, sym, refl, ap, ◌∙◌, subst, append-nil, arith, length-drop, length-take-le, take_all, drop_at}
 use mathlib.Core.Bool.{and-eq-true_iff, false≢true}
 use Rattle.std.proofs.lemmas.List.{drop_all}
 use Rattle.std.proofs.lemmas.Bool.{leb-true, le-leb, lt-leb}
 use borrow.Rule.Slice.PartMut.{mid_of, post_of, put_mid, take_put}
-use Rattle.ciphers.specs.ChaCha20.{suffices}
-use Rattle.ciphers.specs.Closing.{tag, content, last_bytes, fits, Tagged}
+use Rattle.ciphers.specs.ChaCha20.{suffices, Turning}
+use Rattle.aead.specs.Closing.{nonce_of, tag, content, last_bytes, fits, Tagged, Opening}
+use Rattle.aead.proofs.Closed.{fits_is, opening_done}
 use Rattle.aead.specs.Behind.{Behind}
 
 -- what is lent behind the first bytes of a word, and given back changed
@@ -44,3 +45,8 @@ module _ (bs inside last : List ℕ) (p : inside ≡ content bs) (q : last ≡ l
 
   pub never_tagged : (key head : List ℕ) → suffices 1 (length inside) ≡ false → Tagged key head bs → ⊥
   never_tagged key head s tagged = false≢true (sym (split_fits false s) ∙ tagged.0)
+
+-- what has its right tag is decrypted, since the keystream suffices for it
+pub opened : (key : List ℕ) (n : ℕ) (head bytes T : List ℕ) (end : ℕ) (b : Bool) → Tagged key head bytes → end ≡ length bytes - 16 → Turning key 1 (nonce_of n) (mid_of 0 (end - 0) bytes) T b → Opening key n head bytes (T ++ post_of 0 (end - 0) bytes) b
+opened key n head bytes T end true tagged e turned = (tagged, opening_done bytes end (fits_room bytes tagged.0) e key n (nonce_of n) refl T turned.1)
+opened key n head bytes T end false tagged e turned = absurd (false≢true (sym (fits_is bytes end (fits_room bytes tagged.0) e false turned.0) ∙ tagged.0))

@@ -1,13 +1,12 @@
 // Closing and opening in place: ChaCha20, and a tag by HMAC-SHA-256 over a head and the encrypted bytes.
 ghost use Rattle.std.specs.Prelude.{◌≡◌, is_ok, Decides};
 ghost use Rattle.ciphers.specs.ChaCha20.{suffices, Turning};
-ghost use Rattle.ciphers.specs.Closing.{nonce_of, Closing, Tagged, Opening, ClosedOpens, OnlyClosedOpens, ClosedApart};
+ghost use Rattle.aead.specs.Closing.{nonce_of, Closing, Tagged, Opening, ClosedOpens, OnlyClosedOpens, ClosedApart};
 ghost use Rattle.aead.specs.Behind.{Behind};
 
-use crate::key::ClosingKey;
+use crate::cipher_key::CipherKey;
+use ciphers::chacha20::{KeystreamUsedUp, turn};
 use fixed_bytes::compare::same_bytes;
-use fixed_bytes::number::eight_bytes;
-use keystream::chacha20::turn;
 
 // Closing begins with this block of the keystream.
 const FIRST_BLOCK: u32 = 1;
@@ -19,7 +18,7 @@ const MOST_BYTES: usize = 0x3f_ffff_ffc0;
 fn nonce_of(n: u64) -> [u8; 12]
     ensures { result ≡ nonce_of n }
 {
-    let [a, b, c, d, e, f, g, h] = eight_bytes(n);
+    let [a, b, c, d, e, f, g, h] = n.to_be_bytes();
     [0, 0, 0, 0, a, b, c, d, e, f, g, h]
 }
 
@@ -34,34 +33,33 @@ fn is_within_keystream(bytes: usize) -> bool
 #[derive(Clone, Copy, Debug)]
 pub struct Refused;
 
-// Bytes turned in place under a key with a number.
-fn turn_content(key: &ClosingKey, n: u64, bytes: &mut [u8]) -> Result<(), Refused>
-    ensures { Turning key.now.key.bytes 1 (nonce_of n) bytes.old bytes.new (is_ok result) }
-{
-    match turn(key.bytes(), FIRST_BLOCK, &nonce_of(n), bytes) {
-        Ok(()) => Ok(()),
-        Err(_) => Err(Refused),
+impl From<KeystreamUsedUp> for Refused {
+    fn from(_used_up: KeystreamUsedUp) -> Refused {
+        Refused
     }
 }
 
-// The content, which stands before room for its tag, is encrypted in its place and the tag written behind it.
-pub fn close(key: &ClosingKey, n: u64, head: &[u8], bytes: &mut [u8]) -> Result<(), Refused>
-    ensures { Closing key.now.key.bytes n head.now bytes.old bytes.new (is_ok result) }
+// Bytes turned in place under a key with a number.
+fn turn_content<K: CipherKey>(key: &K, n: u64, bytes: &mut [u8]) -> Result<(), Refused>
+    ensures { Turning (K.CipherKey.secret key.now) 1 (nonce_of n) bytes.old bytes.new (is_ok result) }
 {
-    let Some(end) = bytes.len().checked_sub(16) else {
-        return Err(Refused);
-    };
-    let Ok(()) = turn_content(key, n, &mut bytes[0..end]) else {
-        return Err(Refused);
-    };
+    Ok(turn(key.secret(), FIRST_BLOCK, &nonce_of(n), bytes)?)
+}
+
+// The content, which stands before room for its tag, is encrypted in its place and the tag written behind it.
+pub fn close<K: CipherKey>(key: &K, n: u64, head: &[u8], bytes: &mut [u8]) -> Result<(), Refused>
+    ensures { Closing (K.CipherKey.secret key.now) n head.now bytes.old bytes.new (is_ok result) }
+{
+    let end = bytes.len().checked_sub(16).ok_or(Refused)?;
+    turn_content(key, n, &mut bytes[0..end])?;
     let tag = key.tag(head, &bytes[0..end]);
     bytes[end..].copy_from_slice(&tag);
     Ok(())
 }
 
 // Whether this opens: it fits, and its tag is the right one.
-pub fn opens(key: &ClosingKey, head: &[u8], bytes: &[u8]) -> bool
-    ensures { Decides result (Tagged key.now.key.bytes head.now bytes.now) }
+pub fn opens<K: CipherKey>(key: &K, head: &[u8], bytes: &[u8]) -> bool
+    ensures { Decides result (Tagged (K.CipherKey.secret key.now) head.now bytes.now) }
 {
     let Some((content, tag)) = bytes.split_last_chunk::<16>() else {
         return false;
@@ -73,31 +71,26 @@ pub fn opens(key: &ClosingKey, head: &[u8], bytes: &[u8]) -> bool
 }
 
 // What `close` left is looked at and, if its tag is the right one, decrypted in its place; otherwise nothing changes.
-pub fn open(key: &ClosingKey, n: u64, head: &[u8], bytes: &mut [u8]) -> Result<(), Refused>
-    ensures { Opening key.now.key.bytes n head.now bytes.old bytes.new (is_ok result) }
+pub fn open<K: CipherKey>(key: &K, n: u64, head: &[u8], bytes: &mut [u8]) -> Result<(), Refused>
+    ensures { Opening (K.CipherKey.secret key.now) n head.now bytes.old bytes.new (is_ok result) }
 {
     if !opens(key, head, bytes) {
         return Err(Refused);
     }
-    let Some(end) = bytes.len().checked_sub(16) else {
-        return Err(Refused);
-    };
-    let content = &mut bytes[0..end];
-    let Ok(()) = turn_content(key, n, content) else {
-        return Err(Refused);
-    };
-    Ok(())
+    let end = bytes.len().checked_sub(16).ok_or(Refused)?;
+    turn_content(key, n, &mut bytes[0..end])
 }
 
-// What stands behind the first bytes of a word is closed in its place; they stay.
-pub fn close_behind(
-    key: &ClosingKey,
+// What stands behind the first bytes of a word is closed in its place; they stay. This and the next don't lend a closure to
+// one function: the closure would need a contract of its own, longer than the lines that it saves.
+pub fn close_behind<K: CipherKey>(
+    key: &K,
     n: u64,
     head: &[u8],
     start: usize,
     word: &mut [u8],
 ) -> Result<(), Refused>
-    ensures { Behind start (λ before after. Closing key.now.key.bytes n head.now before after (is_ok result)) word.old word.new }
+    ensures { Behind start (λ before after. Closing (K.CipherKey.secret key.now) n head.now before after (is_ok result)) word.old word.new }
 {
     if start > word.len() {
         return Err(Refused);
@@ -106,14 +99,14 @@ pub fn close_behind(
 }
 
 // What stands behind the first bytes of a word is opened in its place; they stay.
-pub fn open_behind(
-    key: &ClosingKey,
+pub fn open_behind<K: CipherKey>(
+    key: &K,
     n: u64,
     head: &[u8],
     start: usize,
     word: &mut [u8],
 ) -> Result<(), Refused>
-    ensures { Behind start (λ before after. Opening key.now.key.bytes n head.now before after (is_ok result)) word.old word.new }
+    ensures { Behind start (λ before after. Opening (K.CipherKey.secret key.now) n head.now before after (is_ok result)) word.old word.new }
 {
     if start > word.len() {
         return Err(Refused);

@@ -1,5 +1,6 @@
 pub mod Rounds
+pub mod Diagonals
+pub mod Lanes
 pub mod Bytes
 pub mod Turning
-pub mod Tags
-pub mod Closings
+pub mod Parts

@@ -1,5 +1,5 @@
 -- ChaCha20 as in RFC 8439, on lists of words of 32 bits and of bytes. Assumes nothing.
-use Rattle.std.specs.Prelude.{◌≡◌, ℕ, zero, suc, ◌+◌, ◌-◌, ◌*◌, ◌/◌, ◌%◌, ◌^◌, ◌<◌, ◌≤◌, Bool, true, false, List, [], ◌∷◌, length, bit_or, bit_xor, nat_le, slice_index, slice_set}
+use Rattle.std.specs.Prelude.{◌≡◌, ℕ, zero, suc, ◌+◌, ◌-◌, ◌*◌, ◌/◌, ◌%◌, ◌^◌, ◌<◌, Bool, true, false, List, [], ◌∷◌, length, bit_or, bit_xor, nat_le, slice_index, slice_set}
 
 -- the sum of two words, which wraps
 abbrev pub plus : ℕ → ℕ → ℕ
@@ -76,19 +76,6 @@ turned_byte key counter nonce bs p = bit_xor (slice_index bs p) (stream_byte key
 pub record Turned (key : List ℕ) (counter : ℕ) (nonce before after : List ℕ) : Type 0 where
   pub len : length after ≡ length before
   pub each : (p : ℕ) → p < length before → slice_index after p ≡ turned_byte key counter nonce before p
-
--- the first bytes of a text are turned, and the others are as they were
-pub record TurnedTo (key : List ℕ) (counter : ℕ) (nonce before after : List ℕ) (n : ℕ) : Type 0 where
-  pub len : length after ≡ length before
-  pub each : (p : ℕ) → p < n → slice_index after p ≡ turned_byte key counter nonce before p
-  pub rest : (p : ℕ) → n ≤ p → slice_index after p ≡ slice_index before p
-
--- the bytes from a place to another are turned by a block, and the others are as they were
-pub record BlockTurned (stream before after : List ℕ) (at end : ℕ) : Type 0 where
-  pub len : length after ≡ length before
-  pub each : (p : ℕ) → at ≤ p → p < end → slice_index after p ≡ bit_xor (slice_index before p) (slice_index stream (p - at))
-  pub front : (p : ℕ) → p < at → slice_index after p ≡ slice_index before p
-  pub rest : (p : ℕ) → end ≤ p → slice_index after p ≡ slice_index before p
 
 -- whether the counter suffices for so many bytes: it never wraps
 abbrev pub suffices : ℕ → ℕ → Bool

@@ -1,2 +1,3 @@
 pub mod ChaCha20
-pub mod Closing
+pub mod Parts
+pub mod Examples

@@ -1,7 +1,8 @@
-// Ciphers: ChaCha20, and closing and opening in place.
+// ChaCha20: its keystream, and bytes turned by it in place.
 #![tactic(auto)]
 
 pub mod chacha20;
-pub mod closing;
+pub mod examples;
 #[cfg(test)]
 mod tests;
+mod word;

@@ -1,14 +1,15 @@
-// Examples of RFC 8439, where the counter ends, and contents that are closed and opened.
+// Examples of RFC 8439, and where the counter ends.
 use crate::chacha20::turn;
-use crate::closing::{close, close_word, open, open_word};
+
+// The key 00 01 .. 1f.
+fn counted() -> [u8; 32] {
+    std::array::from_fn(|i| (i & 0xff) as u8)
+}
 
 // The block of section 2.3.2.
 #[test]
 fn block_of_the_rfc(rt: HostRuntime) {
-    let mut key = [0u8; 32];
-    for i in 0..32usize {
-        key[i] = i as u8;
-    }
+    let key = counted();
     let nonce = [0, 0, 0, 9, 0, 0, 0, 0x4a, 0, 0, 0, 0];
     let mut bytes = [0u8; 64];
     assert!(rt; turn(&key, 1, &nonce, &mut bytes).is_ok());
@@ -34,59 +35,9 @@ fn the_counter_ends(rt: HostRuntime) {
 // The beginning of the encryption in RFC 8439, section 2.4.2.
 #[test]
 fn text_of_the_rfc(rt: HostRuntime) {
-    let mut key = [0u8; 32];
-    for i in 0..32usize {
-        key[i] = i as u8;
-    }
+    let key = counted();
     let nonce = [0, 0, 0, 0, 0, 0, 0, 0x4a, 0, 0, 0, 0];
     let mut bytes = *b"Ladies a";
     assert!(rt; turn(&key, 1, &nonce, &mut bytes).is_ok());
     assert_eq!(rt; bytes, [0x6e, 0x2e, 0x35, 0x9a, 0x25, 0x68, 0xf9, 0x80]);
-}
-
-#[test]
-fn closed_and_opened(rt: HostRuntime) {
-    let mut bytes = [5u8; 20];
-    assert!(rt; close(&[1; 32], 7, b"head", &mut bytes).is_ok());
-    assert!(rt; bytes[0] != 5);
-    let closed = bytes;
-    assert!(rt; open(&[1; 32], 7, b"heap", &mut bytes).is_err());
-    assert_eq!(rt; bytes, closed);
-    bytes[19] ^= 1;
-    assert!(rt; open(&[1; 32], 7, b"head", &mut bytes).is_err());
-    bytes[19] ^= 1;
-    assert!(rt; open(&[1; 32], 7, b"head", &mut bytes).is_ok());
-    assert_eq!(rt; [bytes[0], bytes[1], bytes[2], bytes[3]], [5; 4]);
-}
-
-#[test]
-fn a_word_keeps_its_kind(rt: HostRuntime) {
-    let mut word = [3u8; 18];
-    assert!(rt; close_word(&[1; 32], 0, &[], &mut word).is_ok());
-    assert!(rt; word[0] == 3);
-    assert!(rt; open_word(&[1; 32], 0, &[], &mut word).is_ok());
-    assert!(rt; word[1] == 3);
-    let mut short = [3u8; 16];
-    assert!(rt; close_word(&[1; 32], 0, &[], &mut short).is_err());
-    let mut none = [0u8; 0];
-    assert!(rt; open_word(&[1; 32], 0, &[], &mut none).is_err());
-}
-
-// A record's content, the number of the record before it in the tag; the bytes are those of another implementation.
-#[test]
-fn record_of_a_session(rt: HostRuntime) {
-    let key = [
-        0x0f, 0xe2, 0xf6, 0x97, 0x64, 0xdf, 0x0a, 0x5e, 0x6d, 0x41, 0xd4, 0xe8, 0x29, 0x71, 0x6d,
-        0x30, 0x90, 0x5b, 0xbc, 0x83, 0xca, 0xf2, 0x8c, 0xab, 0x68, 0x7f, 0x30, 0x8f, 0xb8, 0x5d,
-        0x15, 0x97,
-    ];
-    let mut bytes = *b"12480 kg................";
-    assert!(rt; close(&key, 0, &[0; 8], &mut bytes).is_ok());
-    assert_eq!(rt;
-        bytes,
-        [
-            0x00, 0xa9, 0x37, 0xa8, 0xf2, 0xc4, 0xd2, 0xdc, 0x77, 0x44, 0x59, 0x03, 0x64, 0x14,
-            0x66, 0x8b, 0xe9, 0x19, 0x43, 0x6b, 0x7c, 0xc4, 0x15, 0xee,
-        ]
-    );
 }

@@ -1,8 +1,18 @@
 -- Comparing strings byte by byte, without an early exit. Assumes nothing.
-use Rattle.std.proofs.Common.{◌≡◌, ℕ, ◌+◌, eqb, List, length, get_or, Decides, sym, ap, ◌∙◌, arith, ext_get_or, below_more}
+use Rattle.std.proofs.Common.{◌≡◌, ℕ, eqb, List, [], ◌∷◌, length, Decides, sym, refl, ap, ◌∙◌, ap₂, arith}
 use lib.Bits.{bit_or, bit_xor, or_add_and, and_le_l, and_comm, xor_assoc, xor_self, xor_zero_l, xor_zero_r}
 use Rattle.std.proofs.lemmas.Bool.{eqb-true, eq-eqb}
-use Rattle.fixed_bytes.specs.Same.{SameUpTo}
+
+-- the bits in which two strings differ somewhere, joined to others
+abbrev pub difference : ℕ → List ℕ → List ℕ → ℕ
+difference d [] ys = d
+difference d (x ∷ xs) [] = d
+difference d (x ∷ xs) (y ∷ ys) = difference (bit_or d (bit_xor x y)) xs ys
+
+-- where the rest is empty, nothing more is joined
+pub at_end : (d : ℕ) (xs ys : List ℕ) → length xs ≡ 0 → difference d xs ys ≡ d
+at_end d [] ys e = refl
+at_end d (x ∷ xs) ys e = absurd (omega (arith, e))
 
 -- two numbers joined are 0 only if each is
 or_zero : (a b : ℕ) → bit_or a b ≡ 0 → (a ≡ 0) × (b ≡ 0)
@@ -11,14 +21,20 @@ or_zero a b e = let p = or_add_and a b in let q = and_le_l a b in let r = and_le
 xor_same : (x y : ℕ) → bit_xor x y ≡ 0 → x ≡ y
 xor_same x y e = sym (xor_zero_r x) ∙ ap (bit_xor x) (sym (xor_self y)) ∙ sym (xor_assoc x y y) ∙ ap (λ z. bit_xor z y) e ∙ xor_zero_l y
 
--- one byte more
-pub same_more : (a b : List ℕ) (n d : ℕ) → SameUpTo a b n d → SameUpTo a b (n + 1) (bit_or d (bit_xor (get_or a n 0) (get_or b n 0)))
-same_more a b n d s = record {
-  same = λ e. let z = or_zero d (bit_xor (get_or a n 0) (get_or b n 0)) e in below_more (λ k. get_or a k 0 ≡ get_or b k 0) n (s.same z.0) (xor_same (get_or a n 0) (get_or b n 0) z.1);
-  none = λ f. let p = s.none (λ k h. f k (omega arith)) in let q = ap (λ z. bit_xor z (get_or b n 0)) (f n (omega arith)) ∙ xor_self (get_or b n 0) in ap (λ z. bit_or z (bit_xor (get_or a n 0) (get_or b n 0))) p ∙ ap (bit_or 0) q;
-}
+-- no bit is set only if none was and the strings are the same
+no_difference : (d : ℕ) (a b : List ℕ) → length a ≡ length b → difference d a b ≡ 0 → (d ≡ 0) × (a ≡ b)
+no_difference d [] [] n e = (e, refl)
+no_difference d [] (y ∷ ys) n e = absurd (omega (arith, n))
+no_difference d (x ∷ xs) [] n e = absurd (omega (arith, n))
+no_difference d (x ∷ xs) (y ∷ ys) n e =
+    let p = no_difference (bit_or d (bit_xor x y)) xs ys (omega (arith, n)) e in
+    let z = or_zero d (bit_xor x y) p.0 in
+    (z.0, ap₂ (λ v vs. v ∷ vs) (xor_same x y z.1) p.1)
 
--- all bytes compared: 0 says that the lists are the same
-pub same_decides : (a b : List ℕ) (n d : ℕ) → length a ≡ n → length b ≡ n → SameUpTo a b n d → Decides (eqb d 0) (a ≡ b)
-same_decides a b n d p q s =
-    ((λ e. ext_get_or 0 a b (p ∙ sym q) (λ k h. s.same (eqb-true d 0 e) k (omega arith))), λ e. eq-eqb d 0 (s.none (λ k h. ap (λ l. get_or l k 0) e)))
+from_itself : (a : List ℕ) → difference 0 a a ≡ 0
+from_itself [] = refl
+from_itself (x ∷ xs) = ap (λ z. difference (bit_or 0 z) xs xs) (xor_self x) ∙ from_itself xs
+
+-- the bits of all bytes compared: 0 says that the strings are the same
+pub same_decides : (a b : List ℕ) → length a ≡ length b → Decides (eqb (difference 0 a b) 0) (a ≡ b)
+same_decides a b n = (λ e. (no_difference 0 a b n (eqb-true (difference 0 a b) 0 e)).1, λ e. eq-eqb (difference 0 a b) 0 (ap (difference 0 a) (sym e) ∙ from_itself a))

@@ -7,8 +7,8 @@ fn same_all(a: &[u8], b: &[u8]) -> bool
     ensures { Decides result (a.now ≡ b.now) }
 {
     let mut difference = 0;
-    for i in 0..a.len() {
-        difference |= a[i] ^ b[i];
+    for (x, y) in a.iter().zip(b) {
+        difference |= x ^ y;
     }
     difference == 0
 }

@@ -14,13 +14,15 @@ pub struct Fixed<const N: usize> {
     ghost whole: { length bytes ≡ N },
 }
 
-impl<const N: usize> Fixed<N> {
-    pub fn new(bytes: [u8; N]) -> Fixed<N>
-        ensures { result.bytes ≡ bytes.entry }
-    {
+impl<const N: usize> From<[u8; N]> for Fixed<N> {
+    ghost from_gives = { λ bytes value. value.bytes ≡ bytes };
+
+    fn from(bytes: [u8; N]) -> Fixed<N> {
         Fixed { bytes }
     }
+}
 
+impl<const N: usize> Fixed<N> {
     pub fn bytes(&self) -> &[u8; N]
         ensures { result.now ≡ self.now.bytes }
     {
@@ -28,6 +30,7 @@ impl<const N: usize> Fixed<N> {
     }
 }
 
+// By hand, since a derived `==` would end at the first byte that differs.
 impl<const N: usize> PartialEq for Fixed<N> {
     ghost eq = { on (λ v. v.bytes) bytes_eq };
 

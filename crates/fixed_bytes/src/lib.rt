@@ -3,6 +3,5 @@
 
 pub mod compare;
 pub mod fixed;
-pub mod number;
 pub mod secret;
 pub mod wipe;

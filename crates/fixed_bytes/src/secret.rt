@@ -40,6 +40,15 @@ impl Secret {
     }
 }
 
+// Bytes that are known anyway, as those of vectors and settings; the copy that is handed in is overwritten.
+impl From<[u8; 32]> for Secret {
+    ghost from_gives = { λ bytes secret. secret.bytes ≡ bytes };
+
+    fn from(mut bytes: [u8; 32]) -> Secret {
+        Secret::taken_from(&mut bytes)
+    }
+}
+
 // The bytes are overwritten before their memory is given back, of which no contract can speak.
 impl Drop for Secret {
     fn drop(mut self) {
@@ -48,6 +57,7 @@ impl Drop for Secret {
     }
 }
 
+// By hand, since a derived `==` would end at the first byte that differs.
 impl PartialEq for Secret {
     ghost eq = { on (λ v. v.bytes) bytes_eq };
 

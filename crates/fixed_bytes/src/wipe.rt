@@ -3,10 +3,9 @@ ghost use Rattle.std.specs.Prelude.{◌≡◌, length};
 ghost use Rattle.fixed_bytes.specs.Zeros.{zeros};
 
 // Every byte is overwritten with zero.
+#[tactic(auto, unfolding(crate::specs::Zeros::zeros))]
 pub fn wipe(bytes: &mut [u8])
     ensures { bytes.new ≡ zeros (length bytes.old) }
 {
-    for byte in bytes.iter_mut() {
-        *byte = 0;
-    }
+    bytes.fill(0);
 }

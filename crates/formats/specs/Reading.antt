@@ -40,6 +40,10 @@ number n bs k = part n bs (λ p rest. k (value p) rest)
 abbrev pub kind : {X : Type 0} → ℕ → List ℕ → (List ℕ → Result X Fault) → Result X Fault
 kind n bs k = byte bs (λ b rest. must (b == n) UnknownKind (k rest))
 
+-- what follows a kind
+abbrev pub behind_kind : ℕ → List ℕ → Result (List ℕ) Fault
+behind_kind n bs = kind n bs (λ rest. Ok rest)
+
 -- nothing may follow
 abbrev pub done : {X : Type 0} → List ℕ → X → Result X Fault
 done bs x = must (length bs == 0) BadLength (Ok x)

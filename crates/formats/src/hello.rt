@@ -5,6 +5,7 @@ ghost use Rattle.formats.specs.Encoding.{hello_length};
 ghost use Rattle.formats.specs.Reading.{with, alone};
 ghost use Rattle.formats.specs.Views.{named, as_hello};
 
+use crate::kind::behind_kind;
 use crate::listing::read_ciphers;
 use fixed_bytes::fixed::{Fixed, Nonce, PublicKey};
 use words::fault::Fault;
@@ -33,12 +34,7 @@ impl Hello {
 fn read_names(bytes: &[u8]) -> Result<(u16, u16, &[u8]), Fault>
     ensures { with named result ≡ names bytes.now }
 {
-    let Some((kind, rest)) = bytes.split_first() else {
-        return Err(Fault::BadLength);
-    };
-    if *kind != Kind::Hello.byte() {
-        return Err(Fault::UnknownKind);
-    }
+    let rest = behind_kind(bytes, Kind::Hello)?;
     let Some((caller, rest)) = rest.split_first_chunk::<2>() else {
         return Err(Fault::BadLength);
     };
@@ -71,8 +67,8 @@ pub fn read_hello_front(bytes: &[u8]) -> Result<Hello, Fault>
         caller,
         called,
         offer,
-        nonce: Nonce(Fixed::new(*nonce)),
-        half: PublicKey(Fixed::new(*half)),
+        nonce: Nonce(Fixed::from(*nonce)),
+        half: PublicKey(Fixed::from(*half)),
     })
 }
 

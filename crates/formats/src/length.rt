@@ -4,6 +4,7 @@ ghost use Rattle.words.specs.Bytes.{kind_byte};
 ghost use Rattle.formats.specs.Reading.{with, behind_length};
 ghost use Rattle.formats.specs.Views.{seen};
 
+use crate::kind::behind_kind;
 use words::fault::Fault;
 use words::registry::Kind;
 
@@ -18,12 +19,7 @@ fn tells(length: u16, behind: usize) -> bool
 pub fn behind_length(bytes: &[u8], kind: Kind) -> Result<&[u8], Fault>
     ensures { with seen result ≡ behind_length (kind_byte kind) bytes.now }
 {
-    let Some((first, rest)) = bytes.split_first() else {
-        return Err(Fault::BadLength);
-    };
-    if *first != kind.byte() {
-        return Err(Fault::UnknownKind);
-    }
+    let rest = behind_kind(bytes, kind)?;
     let Some((length, behind)) = rest.split_first_chunk::<2>() else {
         return Err(Fault::BadLength);
     };

@@ -3,6 +3,7 @@
 
 pub mod end;
 pub mod hello;
+pub mod kind;
 pub mod laws;
 mod length;
 pub mod listing;

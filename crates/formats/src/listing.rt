@@ -8,21 +8,11 @@ use words::cipher::Cipher;
 use words::fault::Fault;
 use words::preferences::Preferences;
 
-// The most ciphers of a list.
-const MOST_CIPHERS: u8 = 16;
-
 // Whether there is any.
 fn some(count: u8) -> bool
     ensures { result ≡ not (count == 0) }
 {
     count != 0
-}
-
-// Whether so many can stand in one list.
-fn fits(count: u8) -> bool
-    ensures { result ≡ nat_le count most_ciphers }
-{
-    count <= MOST_CIPHERS
 }
 
 // Whether a list lacks a cipher.
@@ -65,7 +55,7 @@ pub fn read_ciphers(bytes: &[u8], many: Fault, twice: Fault) -> Result<Preferenc
     if !some(*count) {
         return Err(Fault::NoCipher);
     }
-    if !fits(*count) {
+    if !Preferences::can_hold(usize::from(*count)) {
         return Err(many);
     }
     read_so_many(*count, rest, twice)

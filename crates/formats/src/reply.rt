@@ -52,13 +52,13 @@ fn read_answer(hello: Hello, bytes: &[u8]) -> Result<Reply, Fault>
     let body = Body {
         hello,
         choice: Cipher::new(*choice),
-        nonce: Nonce(Fixed::new(*nonce)),
-        seal: PublicKey(Fixed::new(*seal)),
-        sealed: Fixed::new(*sealed),
+        nonce: Nonce(Fixed::from(*nonce)),
+        seal: PublicKey(Fixed::from(*seal)),
+        sealed: Fixed::from(*sealed),
     };
     Ok(Reply {
         body,
-        signature: Signature(Fixed::new(*signature)),
+        signature: Signature(Fixed::from(*signature)),
     })
 }
 

@@ -25,13 +25,13 @@ pub fn read_word(bytes: &[u8]) -> Result<Word, Fault>
     let Some(first) = bytes.first() else {
         return Err(Fault::BadLength);
     };
-    match Kind::of(*first) {
-        Some(Kind::Hello) => Ok(Word::Hello(read_hello(bytes)?)),
-        Some(Kind::Reply) => Ok(Word::Reply(read_reply(bytes)?)),
-        Some(Kind::End) => {
+    match Kind::try_from(*first)? {
+        Kind::Hello => Ok(Word::Hello(read_hello(bytes)?)),
+        Kind::Reply => Ok(Word::Reply(read_reply(bytes)?)),
+        Kind::End => {
             let _ = read_end(bytes)?;
             Ok(Word::End)
         }
-        _ => Err(Fault::UnknownKind),
+        Kind::Record | Kind::Settings => Err(Fault::UnknownKind),
     }
 }

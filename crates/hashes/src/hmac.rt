@@ -12,18 +12,6 @@ const INNER_PAD: u8 = 0x36;
 
 const OUTER_PAD: u8 = 0x5c;
 
-// What is left of a state that was wiped.
-const WIPED: State = State {
-    a: 0,
-    b: 0,
-    c: 0,
-    d: 0,
-    e: 0,
-    f: 0,
-    g: 0,
-    h: 0,
-};
-
 // A key, kept as the states after its two pads.
 #[repr(C)]
 #[derive(Clone, Copy)]
@@ -69,9 +57,9 @@ fn key_block(key: &[u8]) -> [u8; 64]
 fn pad_with(block: &[u8; 64], pad: u8) -> [u8; 64]
     ensures { result ≡ masked pad block.now }
 {
-    let mut out = [0; 64];
-    for i in 0..64usize {
-        out[i] = block[i] ^ pad;
+    let mut out = *block;
+    for byte in out.iter_mut() {
+        *byte ^= pad;
     }
     out
 }
@@ -110,8 +98,8 @@ impl HmacKey {
         ensures inner { self.new.inner ≡ wiped_state }
         ensures outer { self.new.outer ≡ wiped_state }
     {
-        self.inner = WIPED;
-        self.outer = WIPED;
+        self.inner = State::default();
+        self.outer = State::default();
     }
 }
 

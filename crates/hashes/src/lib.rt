@@ -2,6 +2,5 @@
 #![tactic(auto)]
 
 pub mod examples;
-pub mod exports;
 pub mod hasher;
 pub mod hmac;

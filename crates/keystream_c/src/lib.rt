@@ -3,12 +3,23 @@
 
 ghost use Rattle.ciphers.specs.ChaCha20.{Turning};
 
-use keystream::exports;
-use keystream::exports::{Key, Nonce};
+use ciphers::chacha20::turn;
+
+#[repr(C)]
+#[derive(Drop)]
+pub struct Key {
+    pub bytes: [u8; 32],
+}
+
+#[repr(C)]
+#[derive(Drop)]
+pub struct Nonce {
+    pub bytes: [u8; 12],
+}
 
 #[unsafe(no_mangle)]
 pub extern "C" fn keystream_turn(key: &Key, counter: u32, nonce: &Nonce, bytes: &mut [u8]) -> bool
     ensures { Turning key.now.bytes counter nonce.now.bytes bytes.old bytes.new result }
 {
-    exports::keystream_turn(key, counter, nonce, bytes)
+    turn(&key.bytes, counter, &nonce.bytes, bytes).is_ok()
 }

@@ -2,9 +2,9 @@
 use Rattle.std.proofs.Common.{◌≡◌, ℕ, ◌<◌, ◌≤◌, Bool, true, false, List, [], ◌++◌, length, take, drop, Ok, Err, Decides, Result, sym, refl, ap, ◌∙◌, subst, arith, length-drop, take-append-drop, take_at, drop_at}
 use mathlib.Core.Bool.{false≢true}
 use borrow.Rule.Slice.PartMut.{post_of}
-use Rattle.ciphers.specs.Closing.{closed, content, fits, Tagged, Closing, Opening}
+use Rattle.aead.specs.Closing.{closed, content, fits, Tagged, Closing, Opening}
 use Rattle.aead.specs.Behind.{Behind}
-use Rattle.ciphers.proofs.Closings.{closed_opens, only_closed_opens, closed_apart}
+use Rattle.aead.proofs.Closed.{closed_opens, only_closed_opens, closed_apart}
 use Rattle.aead.proofs.Closings.{short, fits_room}
 use Rattle.primitives.specs.Group.{GroupModel, half, Commutes, Sized}
 use Rattle.primitives.specs.Seals.{seal_key, sealing_key, opening_key, sealed, front_half, behind_half, seal_content, Sealing, SealFits, Unsealing, OnlySealedOpens, SealedApart}

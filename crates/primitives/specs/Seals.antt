@@ -1,7 +1,7 @@
 -- Sealing for a public half, in place: room for the seal's own half, the content, room for a tag. Assumes nothing.
 use Rattle.std.specs.Prelude.{◌≡◌, ℕ, true, false, List, [], ◌++◌, take, drop, Ok, Err, Result, ◌≢◌}
 use Rattle.hashes.specs.Hmac.{hmac_sha256}
-use Rattle.ciphers.specs.Closing.{closed, content, fits, Tagged, Opening}
+use Rattle.aead.specs.Closing.{closed, content, fits, Tagged, Opening}
 use Rattle.aead.specs.Behind.{Behind}
 use Rattle.primitives.specs.Group.{GroupModel, half}
 use Rattle.primitives.specs.declared.seals.NotSealed.{NotSealed}

@@ -1,6 +1,6 @@
 // Locking with a session secret, in place.
 ghost use Rattle.std.specs.Prelude.{◌≡◌, [], is_ok};
-ghost use Rattle.ciphers.specs.Closing.{Closing, Opening};
+ghost use Rattle.aead.specs.Closing.{Closing, Opening};
 ghost use Rattle.aead.specs.Behind.{Behind};
 ghost use Rattle.primitives.specs.Derived.{lock_key};
 
@@ -18,7 +18,7 @@ impl LockKey {
     pub fn of(secret: &SessionSecret) -> LockKey
         ensures { result.0.key.bytes ≡ lock_key secret.now.0.bytes }
     {
-        LockKey(derive(&secret.0, &[Derivation::Lock.byte()], &[]))
+        LockKey(derive(&secret.0, &[u8::from(Derivation::Lock)], &[]))
     }
 
     // What stands behind the first bytes of a word, with room for a tag, is closed in its place.

@@ -1,11 +1,13 @@
 // Sealing for a public half, in place: room for the seal's own half, the content, room for a tag.
 ghost use Rattle.std.specs.Prelude.{◌≡◌};
 ghost use Rattle.fixed_bytes.specs.Zeros.{zeros};
+ghost use Rattle.primitives.specs.declared.seals.NotSealed.TheVariants.{NoRoom};
+ghost use Rattle.primitives.specs.declared.seals.NotOpened.TheVariants.{Shut};
 ghost use Rattle.primitives.specs.Seals.{seal_key, Sealing, Unsealing, SealedOpens, OnlySealedOpens, SealedApart};
 
 use crate::group::Group;
 use crate::sums::derive;
-use aead::closing::{close_behind, open_behind, opens};
+use aead::closing::{Refused, close_behind, open_behind, opens};
 use aead::key::ClosingKey;
 use fixed_bytes::fixed::{Fixed, PublicKey};
 use fixed_bytes::secret::{CommonElement, Secret, SecretKey};
@@ -17,11 +19,28 @@ pub enum NotSealed {
     NoRoom,
 }
 
+// Sealing is refused where the bytes have no room.
+impl From<Refused> for NotSealed {
+    ghost from_gives = { λ _ reason. reason ≡ NoRoom };
+
+    fn from(_refused: Refused) -> NotSealed {
+        NotSealed::NoRoom
+    }
+}
+
 // Why a seal wasn't opened: it doesn't open, or it does and the common element is the group's one.
 #[derive(Clone, Copy, Debug)]
 pub enum NotOpened {
     Shut,
     OpenedByOne,
+}
+
+impl From<Refused> for NotOpened {
+    ghost from_gives = { λ _ reason. reason ≡ Shut };
+
+    fn from(_refused: Refused) -> NotOpened {
+        NotOpened::Shut
+    }
 }
 
 // Where the closed bytes stand: behind the seal's own half.
@@ -50,9 +69,7 @@ pub fn seal<G: Group>(
     }
     let own = G::public_half(&key);
     let closing = seal_key(&common, theirs, &own);
-    let Ok(()) = close_behind(&closing, 0, &[], HALF_LENGTH, bytes) else {
-        return Err(NotSealed::NoRoom);
-    };
+    close_behind(&closing, 0, &[], HALF_LENGTH, bytes)?;
     bytes[0..HALF_LENGTH].copy_from_slice(own.0.bytes());
     Ok(())
 }
@@ -61,10 +78,8 @@ pub fn seal<G: Group>(
 pub fn open_seal<G: Group>(key: &SecretKey, bytes: &mut [u8]) -> Result<(), NotOpened>
     ensures { Unsealing G.Group.model key.now.0.bytes bytes.old bytes.new result }
 {
-    let Some((front, closed)) = bytes.split_first_chunk::<32>() else {
-        return Err(NotOpened::Shut);
-    };
-    let own = PublicKey(Fixed::new(*front));
+    let (front, closed) = bytes.split_first_chunk::<32>().ok_or(NotOpened::Shut)?;
+    let own = PublicKey(Fixed::from(*front));
     let agreed = G::common(key, &own);
     let closing = seal_key(&agreed, &G::public_half(key), &own);
     if G::is_one(&agreed) {
@@ -73,10 +88,7 @@ pub fn open_seal<G: Group>(key: &SecretKey, bytes: &mut [u8]) -> Result<(), NotO
         }
         return Err(NotOpened::Shut);
     }
-    let Ok(()) = open_behind(&closing, 0, &[], HALF_LENGTH, bytes) else {
-        return Err(NotOpened::Shut);
-    };
-    Ok(())
+    Ok(open_behind(&closing, 0, &[], HALF_LENGTH, bytes)?)
 }
 
 // What was sealed for the half of a key opens with that key, and gives the content back.

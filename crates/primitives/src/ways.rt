@@ -15,13 +15,13 @@ pub enum Direction {
     ToCaller,
 }
 
-impl Direction {
-    pub fn byte(self) -> u8
-        ensures { result ≡ way_byte self }
-    {
-        match self {
-            Direction::ToCalled => Derivation::ToCalled.byte(),
-            Direction::ToCaller => Derivation::ToCaller.byte(),
+impl From<Direction> for u8 {
+    ghost from_gives = { λ way byte. byte ≡ way_byte way };
+
+    fn from(way: Direction) -> u8 {
+        match way {
+            Direction::ToCalled => u8::from(Derivation::ToCalled),
+            Direction::ToCaller => u8::from(Derivation::ToCaller),
         }
     }
 }
@@ -35,7 +35,7 @@ impl WayKey {
     pub fn of(secret: &SessionSecret, way: Direction, choice: Cipher, digest: &[u8; 32]) -> WayKey
         ensures { result.0.key.bytes ≡ way_key secret.now.0.bytes way choice.number digest.now }
     {
-        WayKey(derive(&secret.0, &[way.byte(), choice.number()], digest))
+        WayKey(derive(&secret.0, &[u8::from(way), choice.number()], digest))
     }
 
     pub fn key(&self) -> &ClosingKey

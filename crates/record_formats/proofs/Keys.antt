@@ -1,8 +1,9 @@
 -- Settings: what is read was written so, and what is written is read back. Assumes nothing.
-use Rattle.std.proofs.Common.{◌≡◌, ℕ, ◌+◌, ◌-◌, ◌*◌, ◌/◌, ◌%◌, ◌<◌, ◌≤◌, true, cond, eqb, ltb, leb, List, ◌∷◌, ◌++◌, length, take, drop, Some, None, Ok, Err, Result, sym, refl, ap, ◌∙◌, subst, ap₂, arith, length-append}
+use Rattle.std.proofs.Common.{◌≡◌, ℕ, zero, suc, ◌+◌, ◌-◌, ◌*◌, ◌/◌, ◌%◌, ◌<◌, ◌≤◌, true, cond, eqb, ltb, leb, List, [], ◌∷◌, ◌++◌, length, get_or, take, drop, Some, None, Ok, Err, Result, sym, refl, ap, ◌∙◌, subst, ap₂, arith, length-append}
 use Rattle.std.proofs.ByRecursion.{All-drop}
-use Rattle.std.proofs.lemmas.List.{length-drop, length-take-le, take-append-drop, drop_at, take_at}
-use Rattle.std.proofs.lemmas.Bool.{lt-ltb, ltb-true, leb-true, le-leb, eqb-true, eq-eqb, and_parts, and_from}
+use Rattle.std.proofs.lemmas.List.{drop-drop, length-drop, length-take-le, take-append-drop, drop_at, take_at}
+use Rattle.std.specs.Simd.{first_chunks}
+use Rattle.std.proofs.lemmas.Bool.{le-ltb, lt-ltb, ltb-true, leb-true, le-leb, eqb-true, eq-eqb, and_parts, and_from}
 use Rattle.fixed_bytes.specs.Numbers.{big_endian, value}
 use Rattle.fixed_bytes.proofs.Numbers.{value_back}
 use Rattle.words.specs.declared.fault.Fault.{Fault}
@@ -17,9 +18,26 @@ use Rattle.formats.proofs.Hellos.{both_bytes}
 use Rattle.record_formats.specs.Settings.{Settings, settings_bytes, most_sides, sides_in, keys_fit, settings_keys, own_number, read_settings, WholeSettings, half_at}
 use Rattle.record_formats.specs.Laws.{SettingsAreReadOneWay}
 
--- a side that isn't there has no half
-pub no_half : (halves : List ℕ) (n : ℕ) → length halves < 32 * n → half_at halves n ≡ None
-no_half halves n h = ap (λ t. cond t None (Some (take 32 (drop (32 * n) halves)))) (lt-ltb _ 32 (omega (arith, length-drop (32 * n) halves)))
+-- halves one after another, as pieces of 32 bytes
+halves_in : (k : ℕ) (xs : List ℕ) → length (first_chunks 32 k xs) ≡ k
+halves_in zero xs = refl
+halves_in (suc k) xs = ap suc (halves_in k (drop 32 xs))
+
+piece_at : (k i : ℕ) (xs : List ℕ) → i < k → get_or (first_chunks 32 k xs) i [] ≡ take 32 (drop (32 * i) xs)
+piece_at zero i xs h = absurd (omega (arith, h))
+piece_at (suc k) zero xs h = refl
+piece_at (suc k) (suc i) xs h =
+    let on : 32 + 32 * i ≡ 32 * suc i = omega arith in
+    piece_at k i (drop 32 xs) (omega (arith, h)) ∙ ap (take 32) (drop-drop (32 * i) 32 xs ∙ ap (λ m. drop m xs) on)
+
+-- the piece of a side is its half
+pub half_there : (halves : List ℕ) (pieces : List (List ℕ)) (n m : ℕ) (half : List ℕ) → pieces ≡ first_chunks 32 (length halves / 32) halves → n ≡ m → n < length pieces → half ≡ get_or pieces n [] → Some half ≡ half_at halves m
+half_there halves pieces n m half e same h is =
+    let many : length pieces ≡ length halves / 32 = ap length e ∙ halves_in (length halves / 32) halves in
+    let room = length-drop (32 * m) halves in
+    let enough : 32 ≤ length (drop (32 * m) halves) = omega (arith, many, same, h, room) in
+    let piece = is ∙ ap (λ ps. get_or ps n []) e ∙ piece_at (length halves / 32) n halves (omega (arith, many, h)) ∙ ap (λ k. take 32 (drop (32 * k) halves)) same in
+    ap Some piece ∙ sym (ap (λ t. cond t None (Some (take 32 (drop (32 * m) halves)))) (le-ltb (length (drop (32 * m) halves)) 32 enough))
 
 -- the code's way through settings: the own number, the ciphers, and what is left for the keys
 module _ (bs rest : List ℕ) (own : ℕ) (cs : List ℕ) (n : ℕ) (numbered : Ok (own, rest) ≡ own_number bs) (preferred : Ok cs ≡ alone (listing SettingsTooManyCiphers SettingsCipherTwice rest)) (counted : n ≡ length cs) where

@@ -5,13 +5,14 @@ ghost use Rattle.formats.specs.Reading.{with};
 ghost use Rattle.record_formats.specs.Records.{sendable, read_record};
 ghost use Rattle.record_formats.specs.Views.{as_record};
 
+use formats::kind::behind_kind;
 use words::fault::Fault;
 use words::registry::Kind;
 
 // The most bytes of a content, and those of a tag.
-const MOST_CONTENT: u16 = 1024;
+const MOST_CONTENT: usize = 1024;
 
-const TAG_LENGTH: usize = 16;
+pub const TAG_LENGTH: usize = 16;
 
 // The bytes that name its session, its number, and the content with the tag behind it.
 #[derive(Clone, Copy)]
@@ -22,7 +23,7 @@ pub struct Packet<'a> {
 }
 
 // Whether a content can have so many bytes.
-fn is_sendable(length: u16) -> bool
+pub fn is_sendable(length: usize) -> bool
     ensures { result ≡ sendable length }
 {
     1 <= length && length <= MOST_CONTENT
@@ -39,12 +40,7 @@ fn is_followed(length: u16, behind: usize) -> bool
 pub fn read_record(bytes: &[u8]) -> Result<Packet<'_>, Fault>
     ensures { with as_record result ≡ read_record bytes.now }
 {
-    let Some((kind, rest)) = bytes.split_first() else {
-        return Err(Fault::BadLength);
-    };
-    if *kind != Kind::Record.byte() {
-        return Err(Fault::UnknownKind);
-    }
+    let rest = behind_kind(bytes, Kind::Record)?;
     let Some((session, rest)) = rest.split_first_chunk::<4>() else {
         return Err(Fault::BadLength);
     };
@@ -55,7 +51,7 @@ pub fn read_record(bytes: &[u8]) -> Result<Packet<'_>, Fault>
         return Err(Fault::BadLength);
     };
     let length = u16::from_be_bytes(*length);
-    if !is_sendable(length) {
+    if !is_sendable(usize::from(length)) {
         return Err(Fault::BadLength);
     }
     if !is_followed(length, closed.len()) {

@@ -8,13 +8,14 @@ ghost use Rattle.record_formats.specs.Views.{as_settings, two_parts, numbered, h
 
 use fixed_bytes::compare::same_bytes;
 use fixed_bytes::fixed::{Fixed, PublicKey};
+use formats::kind::behind_kind;
 use formats::listing::read_ciphers;
 use words::fault::Fault;
 use words::preferences::Preferences;
 use words::registry::Kind;
 
 // The most sides, and the bytes of a key.
-const MOST_SIDES: usize = 4096;
+pub const MOST_SIDES: usize = 4096;
 
 const KEY_LENGTH: usize = 32;
 
@@ -66,12 +67,7 @@ fn is_there(number: u16, sides: usize) -> bool
 fn read_own(bytes: &[u8]) -> Result<(u16, &[u8]), Fault>
     ensures { with numbered result ≡ own_number bytes.now }
 {
-    let Some((kind, rest)) = bytes.split_first() else {
-        return Err(Fault::BadLength);
-    };
-    if *kind != Kind::Settings.byte() {
-        return Err(Fault::UnknownKind);
-    }
+    let rest = behind_kind(bytes, Kind::Settings)?;
     let Some((number, rest)) = rest.split_first_chunk::<2>() else {
         return Err(Fault::BadLength);
     };
@@ -140,13 +136,9 @@ impl Settings<'_> {
     pub fn public_half(&self, side: u16) -> Option<PublicKey>
         ensures { half_of result ≡ half_at self.now.halves.now side }
     {
-        let Some((_, rest)) = self.halves.split_at_checked(32 * usize::from(side)) else {
-            return None;
-        };
-        let Some((half, _)) = rest.split_first_chunk::<32>() else {
-            return None;
-        };
-        Some(PublicKey(Fixed::new(*half)))
+        let (halves, _) = self.halves.as_chunks::<32>();
+        let half = halves.get(usize::from(side))?;
+        Some(PublicKey(Fixed::from(*half)))
     }
 
     // Whether the public half of the key is the one that stands in the list at the own number.

@@ -1,6 +1,8 @@
 -- What is computed of a worked session. Assumes nothing.
-use Rattle.std.proofs.Common.{◌≡◌, ℕ, ◌-◌, Bool, true, List, ◌++◌, length, take, drop, Ok, refl, ap, ◌∙◌, ap₂, arith, length-append, take_at, drop_at}
-use Rattle.ciphers.specs.Closing.{content}
+use Rattle.std.proofs.Common.{◌≡◌, ℕ, ◌-◌, Bool, true, List, ◌++◌, length, take, drop, Ok, Err, Result, is_ok, sym, refl, ap, ◌∙◌, ap₂, arith, length-append, take_at, drop_at}
+use mathlib.Core.Bool.{false≢true}
+use Rattle.primitives.specs.declared.seals.NotSealed.{NotSealed}
+use Rattle.aead.specs.Closing.{content}
 use Rattle.primitives.specs.Group.{half}
 use Rattle.primitives.specs.Seals.{sealed, seal_content, Sealing}
 use Rattle.stand_in.specs.StandIn.{stand_in_group, stand_in_signatures}
@@ -19,6 +21,8 @@ content_between front m back f l b =
     let end : length (m ++ back) - 16 ≡ length m = omega arith in
     ap content behind ∙ ap (λ n. take n (m ++ back)) end ∙ take_at m back (length m) refl
 
-pub sealed_is : (x drawn theirs key secret before after : List ℕ) → drawn ≡ x → theirs ≡ half stand_in_group key → seal_content before ≡ secret → Sealing stand_in_group drawn theirs before after (Ok tt) → after ≡ sealed stand_in_group x (half stand_in_group key) secret
-sealed_is x drawn theirs key secret before after d t m s =
+-- what was not refused is sealed
+pub sealed_is : (r : Result (Unit {0}) NotSealed) (x drawn theirs key secret before after : List ℕ) → true ≡ is_ok r → drawn ≡ x → theirs ≡ half stand_in_group key → seal_content before ≡ secret → Sealing stand_in_group drawn theirs before after r → after ≡ sealed stand_in_group x (half stand_in_group key) secret
+sealed_is (Ok _) x drawn theirs key secret before after o d t m s =
     s.2 ∙ ap₂ (λ y p. sealed stand_in_group y p (seal_content before)) d t ∙ ap (sealed stand_in_group x (half stand_in_group key)) m
+sealed_is (Err e) x drawn theirs key secret before after o d t m s = absurd (false≢true (sym o))

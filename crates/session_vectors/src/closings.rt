@@ -1,7 +1,6 @@
 // Records of a worked session under cipher 1, closed with their number in the tag, as another program computed them.
 use aead::closing::close;
 use aead::key::ClosingKey;
-use fixed_bytes::number::eight_bytes;
 use fixed_bytes::secret::Secret;
 use std::alloc::{AllocError, Global};
 
@@ -53,9 +52,8 @@ impl ClosingVector {
     pub fn closed(&self, heap: Global) -> Result<Option<Vec<u8>>, AllocError> {
         let mut bytes = self.content.to_vec(heap)?;
         bytes.extend_from_slice(&[0; 16])?;
-        let mut key = self.key;
-        let key = ClosingKey::new(Secret::taken_from(&mut key));
-        let Ok(()) = close(&key, self.number, &eight_bytes(self.number), &mut bytes) else {
+        let key = ClosingKey::new(Secret::from(self.key));
+        let Ok(()) = close(&key, self.number, &self.number.to_be_bytes(), &mut bytes) else {
             return Ok(None);
         };
         Ok(Some(bytes))

@@ -3,7 +3,7 @@
 ghost use Rattle.std.specs.Prelude.{true, false, IfOk, MatchOption};
 ghost use Rattle.ciphers.specs.ChaCha20.{Turning};
 
-use keystream::chacha20::turn;
+use ciphers::chacha20::turn;
 use std::alloc::{AllocError, Global};
 
 // A key, the counter of the first block, a nonce and a text, and what the text is encrypted to.

@@ -134,24 +134,12 @@ pub const SESSIONS: [SessionVector; 2] = [
     },
 ];
 
-fn secret_key(mut bytes: [u8; 32]) -> SecretKey
-    ensures { result.0.bytes ≡ bytes }
-{
-    SecretKey(Secret::taken_from(&mut bytes))
-}
-
-fn session_secret(mut bytes: [u8; 32]) -> SessionSecret
-    ensures { result.0.bytes ≡ bytes }
-{
-    SessionSecret(Secret::taken_from(&mut bytes))
-}
-
 impl SessionVector {
     // The public half of the caller's ephemeral key.
     pub fn public_half(&self) -> PublicKey
         ensures { result.0.bytes ≡ half stand_in_group self.now.ephemeral }
     {
-        <StandIn as Group>::public_half(&secret_key(self.ephemeral))
+        <StandIn as Group>::public_half(&SecretKey(Secret::from(self.ephemeral)))
     }
 
     // The session secret sealed for that half.
@@ -161,16 +149,14 @@ impl SessionVector {
         let mut bytes = [0; 80];
         bytes[32..64].copy_from_slice(&self.secret);
         let mut drawn = self.seal_key;
-        let Ok(()) = seal::<StandIn>(&mut drawn, &self.public_half(), &mut bytes) else {
-            return None;
-        };
+        seal::<StandIn>(&mut drawn, &self.public_half(), &mut bytes).ok()?;
         Some(bytes)
     }
 
     // What the caller finds in it.
     pub fn opened(&self) -> Option<[u8; 32]> {
         let mut bytes = self.sealed()?;
-        open_seal::<StandIn>(&secret_key(self.ephemeral), &mut bytes).ok()?;
+        open_seal::<StandIn>(&SecretKey(Secret::from(self.ephemeral)), &mut bytes).ok()?;
         let mut secret = [0; 32];
         secret.copy_from_slice(&bytes[32..64]);
         Some(secret)
@@ -188,14 +174,17 @@ impl SessionVector {
     pub fn signature(&self) -> Signature
         ensures { result.0.bytes ≡ stand_in_signatures.sign self.now.called_key (signed_part self.now.reply.now) }
     {
-        <StandIn as Signatures>::sign(&secret_key(self.called_key), self.signed_part())
+        <StandIn as Signatures>::sign(
+            &SecretKey(Secret::from(self.called_key)),
+            self.signed_part(),
+        )
     }
 
     // Whether it verifies under the called side's public half.
     pub fn verifies(&self) -> bool
         ensures { result ≡ true }
     {
-        let half = <StandIn as Signatures>::public_half(&secret_key(self.called_key));
+        let half = <StandIn as Signatures>::public_half(&SecretKey(Secret::from(self.called_key)));
         <StandIn as Signatures>::verify(&half, self.signed_part(), &self.signature())
     }
 
@@ -207,10 +196,13 @@ impl SessionVector {
         let [high, low] = length.to_be_bytes();
         let mut word = vec![in heap; 3, high, low]?;
         word.extend_from_slice(self.reply)?;
-        let signature = <StandIn as Signatures>::sign(&secret_key(self.caller_key), &word);
+        let signature = <StandIn as Signatures>::sign(
+            &SecretKey(Secret::from(self.caller_key)),
+            &word,
+        );
         word.extend_from_slice(signature.0.bytes())?;
         word.extend_from_slice(&[0; 16])?;
-        let lock = LockKey::of(&session_secret(self.secret));
+        let lock = LockKey::of(&SessionSecret(Secret::from(self.secret)));
         let Ok(()) = lock.lock(3, &mut word) else {
             return Ok(None);
         };
@@ -222,7 +214,7 @@ impl SessionVector {
         ensures { result.0.key.bytes ≡ way_key self.now.secret way self.now.choice (sha256 self.now.reply.now) }
     {
         WayKey::of(
-            &session_secret(self.secret),
+            &SessionSecret(Secret::from(self.secret)),
             way,
             Cipher::new(self.choice),
             &digest(self.reply),

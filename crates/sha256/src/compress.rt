@@ -66,26 +66,13 @@ fn add(s: State, t: State) -> State
     }
 }
 
-// The word that starts at a place of a block.
-fn word_at(block: &[u8; 64], place: usize) -> u32
-    requires { place < 61 }
-    ensures { result ≡ first_word (drop place block.now) }
-{
-    u32::from_be_bytes([
-        block[place],
-        block[place + 1],
-        block[place + 2],
-        block[place + 3],
-    ])
-}
-
 // The sixteen words of a block.
 fn block_words(block: &[u8; 64]) -> [u32; 16]
     ensures { result ≡ words 16 block.now }
 {
     let mut w = [0; 16];
-    for t in 0..16usize {
-        w[t] = word_at(block, 4 * t);
+    for (t, bytes) in block.as_chunks::<4>().0.iter().enumerate() {
+        w[t] = u32::from_be_bytes(*bytes);
     }
     w
 }
@@ -94,22 +81,10 @@ fn block_words(block: &[u8; 64]) -> [u32; 16]
 fn first_rounds(s: State, w: &[u32; 16]) -> State
     ensures { result ≡ rounds s (sums (take 16 constants) w.now) }
 {
-    let s = one_round(s, CONSTANTS[0].wrapping_add(w[0]));
-    let s = one_round(s, CONSTANTS[1].wrapping_add(w[1]));
-    let s = one_round(s, CONSTANTS[2].wrapping_add(w[2]));
-    let s = one_round(s, CONSTANTS[3].wrapping_add(w[3]));
-    let s = one_round(s, CONSTANTS[4].wrapping_add(w[4]));
-    let s = one_round(s, CONSTANTS[5].wrapping_add(w[5]));
-    let s = one_round(s, CONSTANTS[6].wrapping_add(w[6]));
-    let s = one_round(s, CONSTANTS[7].wrapping_add(w[7]));
-    let s = one_round(s, CONSTANTS[8].wrapping_add(w[8]));
-    let s = one_round(s, CONSTANTS[9].wrapping_add(w[9]));
-    let s = one_round(s, CONSTANTS[10].wrapping_add(w[10]));
-    let s = one_round(s, CONSTANTS[11].wrapping_add(w[11]));
-    let s = one_round(s, CONSTANTS[12].wrapping_add(w[12]));
-    let s = one_round(s, CONSTANTS[13].wrapping_add(w[13]));
-    let s = one_round(s, CONSTANTS[14].wrapping_add(w[14]));
-    let s = one_round(s, CONSTANTS[15].wrapping_add(w[15]));
+    let mut s = s;
+    for (constant, word) in CONSTANTS[0..16].iter().zip(w) {
+        s = one_round(s, constant.wrapping_add(*word));
+    }
     s
 }
 

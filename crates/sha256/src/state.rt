@@ -4,7 +4,7 @@ ghost use Rattle.sha256.specs.Sha256.{initial};
 
 // The words H of the standard, and a to h within a block.
 #[repr(C)]
-#[derive(Clone, Copy)]
+#[derive(Clone, Copy, Default)]
 pub struct State {
     pub a: u32,
     pub b: u32,

@@ -24,7 +24,7 @@ impl Group for StandIn {
     ghost size = { sized };
 
     fn public_half(key: &SecretKey) -> PublicKey {
-        PublicKey(Fixed::new(product(key.0.bytes(), &element_of(BASE))))
+        PublicKey(Fixed::from(product(key.0.bytes(), &element_of(BASE))))
     }
 
     fn common(key: &SecretKey, theirs: &PublicKey) -> CommonElement {

@@ -2,8 +2,6 @@
 ghost use Rattle.std.specs.Prelude.{◌≡◌, ◌*◌, ◌%◌, ◌^◌};
 ghost use Rattle.stand_in.specs.StandIn.{number, element};
 
-use fixed_bytes::number::eight_bytes;
-
 // The number that 32 bytes stand for.
 pub(crate) fn number_of(bytes: &[u8; 32]) -> u64
     ensures { result ≡ number bytes.now }
@@ -19,7 +17,7 @@ pub(crate) fn element_of(number: u64) -> [u8; 32]
     ensures { result ≡ element number }
 {
     let mut bytes = [0; 32];
-    bytes[24..].copy_from_slice(&eight_bytes(number));
+    bytes[24..].copy_from_slice(&number.to_be_bytes());
     bytes
 }
 

@@ -18,7 +18,7 @@ fn signature_of(half: &PublicKey, message: &[u8]) -> Signature
 {
     let mut bytes = [0; 64];
     bytes[0..32].copy_from_slice(&hmac(half.0.bytes(), message));
-    Signature(Fixed::new(bytes))
+    Signature(Fixed::from(bytes))
 }
 
 impl Signatures for StandIn {

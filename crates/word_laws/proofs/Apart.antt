@@ -1,7 +1,7 @@
 -- Kinds are told apart by their first byte, and ends by what is locked in them. Assumes nothing.
 use Rattle.std.proofs.Common.{◌≡◌, ℕ, List, [], ◌∷◌, drop, Ok, sym, ap, ◌∙◌, arith}
 use Rattle.words.specs.declared.fault.Fault.TheVariants.{UnknownKind}
-use Rattle.ciphers.proofs.Closings.{closed_apart}
+use Rattle.aead.proofs.Closed.{closed_apart}
 use Rattle.primitives.specs.Derived.{lock_key}
 use Rattle.formats.specs.Decoding.{read_word}
 use Rattle.formats.proofs.Stages.{err_ok, by_then, by_kind}

@@ -1,6 +1,6 @@
 -- What holds of words, records and settings together, and of ends with what is locked in them. Assumes nothing.
 use Rattle.std.specs.Prelude.{◌≡◌, ℕ, List, [], Ok, ◌≢◌}
-use Rattle.ciphers.specs.Closing.{closed}
+use Rattle.aead.specs.Closing.{closed}
 use Rattle.primitives.specs.Derived.{lock_key}
 use Rattle.protocol.specs.Words.{Word}
 use Rattle.formats.specs.Decoding.{read_word}

@@ -1,6 +1,5 @@
 // Hellos, replies and ends as bytes.
 ghost use Rattle.std.specs.Prelude.{◌≡◌, ◌++◌, length, IfOk};
-ghost use Rattle.fixed_bytes.specs.Numbers.{big_endian};
 ghost use Rattle.words.specs.Listed.{listed};
 ghost use Rattle.formats.specs.Decoding.{lockable};
 ghost use Rattle.formats.specs.Encoding.{listed_bytes, hello_bytes, body_bytes, claim_bytes, end_bytes};
@@ -11,6 +10,7 @@ use crate::failure::NotWritten;
 use fixed_bytes::fixed::Signature;
 use formats::hello::Hello;
 use formats::reply::Body;
+use record_formats::packet::TAG_LENGTH;
 use std::alloc::{AllocError, Global};
 use words::preferences::Preferences;
 use words::registry::Kind;
@@ -20,19 +20,10 @@ const ANSWER_LENGTH: usize = 113;
 
 const SIGNATURE_LENGTH: usize = 64;
 
-const TAG_LENGTH: usize = 16;
-
 // How long replies are.
 const SHORTEST_REPLY: usize = 251;
 
 const LONGEST_REPLY: usize = 266;
-
-// A number in two bytes, the high one first.
-pub fn two_bytes(number: u16) -> [u8; 2]
-    ensures { result ≡ big_endian 2 number }
-{
-    number.to_be_bytes()
-}
 
 // Ciphers behind their count.
 pub fn write_ciphers(heap: Global, list: &Preferences) -> Result<Vec<u8>, AllocError>
@@ -52,9 +43,9 @@ pub fn write_hello(heap: Global, hello: &Hello) -> Result<Vec<u8>, AllocError>
 {
     let offer = write_ciphers(heap, &hello.offer)?;
     let mut out = Vec::with_capacity(heap, hello.len())?;
-    out.push(Kind::Hello.byte())?;
-    out.extend_from_slice(&two_bytes(hello.caller))?;
-    out.extend_from_slice(&two_bytes(hello.called))?;
+    out.push(u8::from(Kind::Hello))?;
+    out.extend_from_slice(&hello.caller.to_be_bytes())?;
+    out.extend_from_slice(&hello.called.to_be_bytes())?;
     out.extend_from_slice(&offer)?;
     out.extend_from_slice(hello.nonce.0.bytes())?;
     out.extend_from_slice(hello.half.0.bytes())?;
@@ -68,8 +59,8 @@ pub fn write_body(heap: Global, body: &Body) -> Result<Vec<u8>, AllocError>
     let hello = write_hello(heap, &body.hello)?;
     let length = (hello.len() + ANSWER_LENGTH + SIGNATURE_LENGTH) as u16;
     let mut out = Vec::with_capacity(heap, 3 + usize::from(length))?;
-    out.push(Kind::Reply.byte())?;
-    out.extend_from_slice(&two_bytes(length))?;
+    out.push(u8::from(Kind::Reply))?;
+    out.extend_from_slice(&length.to_be_bytes())?;
     out.extend_from_slice(&hello)?;
     out.push(body.choice.number())?;
     out.extend_from_slice(body.nonce.0.bytes())?;
@@ -110,8 +101,8 @@ pub fn write_claim(heap: Global, reply: &[u8]) -> Result<Vec<u8>, NotWritten>
     }
     let length = (reply.len() + SIGNATURE_LENGTH + TAG_LENGTH) as u16;
     let mut out = Vec::with_capacity(heap, 3 + usize::from(length))?;
-    out.push(Kind::End.byte())?;
-    out.extend_from_slice(&two_bytes(length))?;
+    out.push(u8::from(Kind::End))?;
+    out.extend_from_slice(&length.to_be_bytes())?;
     out.extend_from_slice(reply)?;
     Ok(out)
 }

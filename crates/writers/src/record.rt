@@ -4,22 +4,12 @@ ghost use Rattle.record_formats.specs.Records.{sendable, record_bytes};
 ghost use Rattle.writers.specs.Written.{Writes, tag_room};
 
 use crate::failure::NotWritten;
-use crate::messages::two_bytes;
-use fixed_bytes::number::eight_bytes;
+use record_formats::packet::is_sendable;
 use std::alloc::Global;
 use words::registry::Kind;
 
-// The most bytes of a content, and those of a record's head and tag.
-const MOST_CONTENT: usize = 1024;
-
+// How many bytes a record's head and tag have.
 const HEAD_AND_TAG: usize = 31;
-
-// Whether a content can have so many bytes.
-fn is_sendable(length: usize) -> bool
-    ensures { result ≡ sendable length }
-{
-    1 <= length && length <= MOST_CONTENT
-}
 
 // A record whose content is to be closed in its place, with room for the tag behind it.
 pub fn write_record(
@@ -34,10 +24,10 @@ pub fn write_record(
         return Err(NotWritten::BadLength);
     }
     let mut out = Vec::with_capacity(heap, HEAD_AND_TAG + content.len())?;
-    out.push(Kind::Record.byte())?;
+    out.push(u8::from(Kind::Record))?;
     out.extend_from_slice(session)?;
-    out.extend_from_slice(&eight_bytes(number))?;
-    out.extend_from_slice(&two_bytes(content.len() as u16))?;
+    out.extend_from_slice(&number.to_be_bytes())?;
+    out.extend_from_slice(&(content.len() as u16).to_be_bytes())?;
     out.extend_from_slice(content)?;
     out.extend_from_slice(&[0; 16])?;
     Ok(out)

@@ -5,13 +5,11 @@ ghost use Rattle.record_formats.specs.Settings.{settings_bytes};
 ghost use Rattle.writers.specs.Written.{settings_fit, Writes};
 
 use crate::failure::NotWritten;
-use crate::messages::{two_bytes, write_ciphers};
+use crate::messages::write_ciphers;
+use record_formats::settings::MOST_SIDES;
 use std::alloc::Global;
 use words::preferences::Preferences;
 use words::registry::Kind;
-
-// The most sides.
-const MOST_SIDES: usize = 4096;
 
 // Whether halves in so many bytes are of some sides, with the own one among them.
 fn are_sides(own: u16, length: usize) -> bool
@@ -35,8 +33,8 @@ pub fn write_settings(
     }
     let list = write_ciphers(heap, preferences)?;
     let mut out = Vec::new(heap);
-    out.push(Kind::Settings.byte())?;
-    out.extend_from_slice(&two_bytes(own))?;
+    out.push(u8::from(Kind::Settings))?;
+    out.extend_from_slice(&own.to_be_bytes())?;
     out.extend_from_slice(&list)?;
     out.extend_from_slice(halves)?;
     out.extend_from_slice(key)?;

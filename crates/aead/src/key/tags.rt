@@ -1,17 +1,15 @@
-// Tags under a kept key.
-ghost use Rattle.std.specs.Prelude.{◌≡◌};
-ghost use Rattle.ciphers.specs.Closing.{tag};
-
+// A kept key as one that closes and opens.
+use crate::cipher_key::{CipherKey, tag_by};
 use crate::key::ClosingKey;
 
-impl ClosingKey {
-    // The tag over a head and encrypted bytes.
-    pub fn tag(&self, head: &[u8], bytes: &[u8]) -> [u8; 16]
-        ensures { result ≡ tag self.now.key.bytes head.now bytes.now }
-    {
-        let sum = self.sums.start().update(head).update(bytes).finish();
-        let mut tag = [0; 16];
-        tag.copy_from_slice(&sum[0..16]);
-        tag
+impl CipherKey for ClosingKey {
+    ghost secret = { λ key. key.key.bytes };
+
+    fn secret(&self) -> &[u8; 32] {
+        self.bytes()
+    }
+
+    fn tag(&self, head: &[u8], bytes: &[u8]) -> [u8; 16] {
+        tag_by(self.sums.start(), head, bytes)
     }
 }

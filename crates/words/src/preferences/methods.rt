@@ -18,13 +18,6 @@ fn has_room(count: usize) -> bool
     count < MOST_CIPHERS
 }
 
-// Whether so many can stand in one list.
-fn fits(count: usize) -> bool
-    ensures { result ≡ nat_le count most_ciphers }
-{
-    count <= MOST_CIPHERS
-}
-
 // Whether a cipher is among those of a slice.
 fn is_among(ciphers: &[Cipher], cipher: Cipher) -> bool
     ensures { result ≡ holds (numbers ciphers.now) cipher.number }
@@ -33,6 +26,13 @@ fn is_among(ciphers: &[Cipher], cipher: Cipher) -> bool
 }
 
 impl Preferences {
+    // Whether so many can stand in one list.
+    pub fn can_hold(count: usize) -> bool
+        ensures { result ≡ nat_le count most_ciphers }
+    {
+        count <= MOST_CIPHERS
+    }
+
     // A list of one cipher.
     pub fn only(cipher: Cipher) -> Preferences
         ensures { listed result ≡ cipher.number ∷ [] }
@@ -51,7 +51,7 @@ impl Preferences {
         let Some((first, rest)) = ciphers.split_first() else {
             return Err(Fault::NoCipher);
         };
-        if !fits(ciphers.len()) {
+        if !Preferences::can_hold(ciphers.len()) {
             return Err(Fault::TooManyCiphers);
         }
         let mut preferences = Preferences::only(*first);

@@ -1,4 +1,4 @@
-use Rattle.ciphers.proofs.Closings.{closed_apart}
+use Rattle.aead.proofs.Closed.{closed_apart}
 use Rattle.aead.proofs.closing.closed_apart.Goals as goal
 
 pub returns : goal.returns

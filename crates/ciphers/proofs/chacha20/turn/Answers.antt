@@ -1,6 +1,9 @@
-use Rattle.std.proofs.Common.{arith}
-use Rattle.ciphers.proofs.Turning.{one_block_more}
+use Rattle.std.proofs.Common.{◌*◌, arith, rules}
+use Rattle.ciphers.proofs.Parts.{stream_more, stream_whole}
 use Rattle.ciphers.proofs.chacha20.turn.Goals as goal
 
-pub loop-i-preserved : goal.loop-i-preserved
-loop-i-preserved c = one_block_more c.args.key.now c.args.counter c.args.nonce.now c.args.bytes.now c.loop-i.bytes c.turn_block.new.bytes c.block-stream.result c.loop-i.i c.turn_block.result c.loop-i.invariant c.turn_block.ensures.turned c.turn_block.ensures.end (omega arith) c.block-stream.ensures.bytes
+pub loop-done-preserved : goal.loop-done-preserved
+loop-done-preserved c = stream_more c.args.key.now c.args.counter c.args.nonce.now c.args.bytes.now c.loop-done.bytes c.turn_next-done.new.bytes c.loop-done.done c.turn_next-done.result c.loop-done.invariant c.turn_next-done.ensures.turned
+
+pub returns : goal.returns
+returns c = (search rules, stream_whole c.args.key.now c.args.counter c.args.nonce.now c.args.bytes.now c.loop-done.bytes (64 * c.loop-done.done) (omega arith) c.loop-done.invariant)

@@ -1,9 +1,6 @@
-use Rattle.std.proofs.Common.{◌-◌, ◌≤◌}
-use Rattle.ciphers.specs.ChaCha20.{BlockTurned}
+use Rattle.std.proofs.Common.{◌+◌, min, length, get_or}
+use Rattle.ciphers.specs.Parts.{PartTurned}
 use Rattle.ciphers.proofs.chacha20.turn_block.Given as goal
 
-abbrev pub invariant-loop-p : goal.invariant-loop-p
-invariant-loop-p l = (l.at ≤ l.p) × (l.p ≤ l.end) × BlockTurned l.stream l.initial.bytes l.bytes l.at l.p
-
-abbrev pub decreases-loop-p : goal.decreases-loop-p
-decreases-loop-p l = l.end - l.p
+abbrev pub invariant-loop-j : goal.invariant-loop-j
+invariant-loop-j l = PartTurned (λ j. get_or l.stream j 0) l.initial.bytes l.bytes l.at (min (length l.initial.bytes) (l.at + l.j))

@@ -1,11 +1,11 @@
-use Rattle.std.proofs.Common.{◌≡◌, length, sym, arith}
-use Rattle.fixed_bytes.proofs.Comparing.{same_more, same_decides}
+use Rattle.std.proofs.Common.{◌≡◌, length, sym, ◌∙◌}
+use mathlib.Core.Logic.{inl, inr}
+use Rattle.fixed_bytes.proofs.Comparing.{at_end, same_decides}
 use Rattle.fixed_bytes.proofs.compare.same_all.Goals as goal
-
-pub loop-i-preserved : goal.loop-i-preserved
-loop-i-preserved c = same_more c.args.a.now c.args.b.now c.loop-i.i c.loop-i.difference c.loop-i.invariant
 
 pub returns : goal.returns
 returns c =
-    let all : c.loop-i.i ≡ length c.args.a.now = omega arith in
-    same_decides c.args.a.now c.args.b.now c.loop-i.i c.loop-i.difference (sym all) (omega arith) c.loop-i.invariant
+    let rest = c.loop-x.x-iterator in
+    let none : length rest.a.rest.now ≡ 0 = elim c.in-None.ensures.steps [ inl p ↦ p.1.0 | inr p ↦ c.loop-x.invariant.1 ∙ p.1.0 ] in
+    let all = sym (at_end c.loop-x.difference rest.a.rest.now rest.b.rest.now none) ∙ c.loop-x.invariant.0 in
+    rw all (same_decides c.args.a.now c.args.b.now c.requires)

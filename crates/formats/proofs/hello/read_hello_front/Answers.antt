@@ -24,4 +24,4 @@ returns c =
     let next = c.in-Some-split_first_chunk.ensures.cases in
     let last = c.in-Some-split_first_chunk-2.ensures.cases in
     front_found c.args.bytes.now c.in_ok-caller.rest.now _ _ (listed c.in_ok-offer.offer) c.len.result c.in_ok-caller.ensures c.in_ok-offer.ensures c.len.ensures
-    c.in-Some.rest.now c.in-Some-split_first_chunk.rest.now _ _ c.in-Some.ensures.cases.2 next.1 next.2 (omega (arith, last.2)) (c.new.ensures ∙ next.0) (c.new-2.ensures ∙ last.0)
+    c.in-Some.rest.now c.in-Some-split_first_chunk.rest.now _ _ c.in-Some.ensures.cases.2 next.1 next.2 (omega (arith, last.2)) (c.from.ensures ∙ next.0) (c.from-2.ensures ∙ last.0)

@@ -1,6 +1,5 @@
-use Rattle.std.proofs.Common.{◌≡◌, length, take}
-use Rattle.hashes.specs.Hmac.{masked}
+use Rattle.hashes.proofs.Keys.{MaskedTo}
 use Rattle.hashes.proofs.hmac.pad_with.Given as goal
 
-abbrev pub invariant-loop-i : goal.invariant-loop-i
-invariant-loop-i l = (length l.out ≡ 64) × (take l.i l.out ≡ masked l.pad (take l.i l.block))
+abbrev pub invariant-loop-byte : goal.invariant-loop-byte
+invariant-loop-byte l = MaskedTo l.pad l.block l.byte-items l.byte-index

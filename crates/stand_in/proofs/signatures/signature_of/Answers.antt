@@ -6,4 +6,4 @@ use Rattle.stand_in.proofs.signatures.signature_of.Goals as goal
 
 pub returns : goal.returns
 unfolding zeros
-returns c = c.new.ensures ∙ ap (λ l. l ++ zeros 32) (c.copy_from_slice.ensures.after ∙ c.hmac.ensures ∙ ap (λ k. hmac_sha256 k c.args.message.now) c.bytes.ensures)
+returns c = c.from.ensures ∙ ap (λ l. l ++ zeros 32) (c.copy_from_slice.ensures.after ∙ c.hmac.ensures ∙ ap (λ k. hmac_sha256 k c.args.message.now) c.bytes.ensures)

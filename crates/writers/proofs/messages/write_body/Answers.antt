@@ -1,6 +1,7 @@
 use Rattle.std.proofs.Common.{length, ap, ◌∙◌, arith}
 use Rattle.std.proofs.lemmas.Slice.{pushed}
 use Rattle.formats.specs.Views.{as_hello, as_body}
+use Rattle.fixed_bytes.proofs.Numbers.{two_written}
 use Rattle.writers.proofs.Joined.{body_joined, body_long, hello_short}
 use Rattle.writers.proofs.messages.write_body.Goals as goal
 
@@ -21,4 +22,4 @@ returns c =
     let nonce = pushed _ choice c.in_ok-extend_from_slice-3.was c.extend_from_slice-3.ensures.items in
     let seal = pushed _ nonce c.in_ok-extend_from_slice-4.was c.extend_from_slice-4.ensures.items in
     pushed _ seal c.in_ok-extend_from_slice-5.was c.extend_from_slice-5.ensures.items
-    ∙ body_joined (as_body b) _ _ _ _ _ _ _ _ c.byte.ensures c.two_bytes.ensures long (c.deref.ensures.value ∙ c.in_ok-hello.ensures) c.number.ensures c.bytes.ensures c.bytes-2.ensures c.bytes-3.ensures
+    ∙ body_joined (as_body b) _ _ _ _ _ _ _ _ c.from-2.ensures (two_written _ _ c.to_be_bytes.ensures) long (c.deref.ensures.value ∙ c.in_ok-hello.ensures) c.number.ensures c.bytes.ensures c.bytes-2.ensures c.bytes-3.ensures

@@ -1,5 +1,6 @@
 use Rattle.std.proofs.Common.{sym, refl, ◌∙◌}
 use Rattle.std.proofs.lemmas.Slice.{pushed}
+use Rattle.fixed_bytes.proofs.Numbers.{two_written, eight_written}
 use Rattle.writers.proofs.Joined.{record_joined}
 use Rattle.writers.proofs.record.write_record.Goals as goal
 
@@ -11,4 +12,4 @@ returns c =
     let len = pushed _ number c.in_ok-extend_from_slice-3.was c.extend_from_slice-3.ensures.items in
     let content = pushed _ len c.in_ok-extend_from_slice-4.was c.extend_from_slice-4.ensures.items in
     let all = pushed _ content c.in_ok-extend_from_slice-5.was c.extend_from_slice-5.ensures.items in
-    (sym c.if-not-is_sendable.ensures, all ∙ record_joined c.args.session.now c.args.number _ _ _ _ c.args.content.now _ c.byte.ensures c.eight_bytes.ensures c.two_bytes.ensures refl refl)
+    (sym c.if-not-is_sendable.ensures, all ∙ record_joined c.args.session.now c.args.number _ _ _ _ c.args.content.now _ c.from.ensures (eight_written _ _ c.to_be_bytes.ensures) (two_written _ _ c.to_be_bytes-2.ensures) refl refl)

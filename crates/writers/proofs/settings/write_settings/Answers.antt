@@ -1,6 +1,7 @@
 use Rattle.std.proofs.Common.{sym, ◌∙◌}
 use Rattle.std.proofs.lemmas.Slice.{pushed}
 use Rattle.words.specs.Listed.{listed}
+use Rattle.fixed_bytes.proofs.Numbers.{two_written}
 use Rattle.writers.proofs.Joined.{settings_joined}
 use Rattle.writers.proofs.settings.write_settings.Goals as goal
 
@@ -11,4 +12,4 @@ returns c =
     let list = pushed _ own c.in_ok-extend_from_slice-2.was c.extend_from_slice-2.ensures.items in
     let halves = pushed _ list c.in_ok-extend_from_slice-3.was c.extend_from_slice-3.ensures.items in
     let all = pushed _ halves c.in_ok-extend_from_slice-4.was c.extend_from_slice-4.ensures.items in
-    (sym c.if-not-are_sides.ensures, all ∙ settings_joined (record { own = c.args.own; preferences = listed c.args.preferences.now; halves = c.args.halves.now; key = c.args.key.now }) _ _ _ c.byte.ensures c.two_bytes.ensures (c.deref.ensures.value ∙ c.in_ok-list.ensures))
+    (sym c.if-not-are_sides.ensures, all ∙ settings_joined (record { own = c.args.own; preferences = listed c.args.preferences.now; halves = c.args.halves.now; key = c.args.key.now }) _ _ _ c.from.ensures (two_written _ _ c.to_be_bytes.ensures) (c.deref.ensures.value ∙ c.in_ok-list.ensures))

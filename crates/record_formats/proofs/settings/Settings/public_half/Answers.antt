@@ -1,6 +1,8 @@
-use Rattle.std.proofs.Common.{◌*◌, ◌<◌, length, sym, subst}
-use Rattle.record_formats.proofs.Keys.{no_half}
+use Rattle.std.proofs.Common.{Some, [], ap, ◌∙◌}
+use Rattle.record_formats.proofs.Keys.{half_there}
 use Rattle.record_formats.proofs.settings.Settings.public_half.Goals as goal
 
-pub returns-in_default : goal.returns-in_default
-returns-in_default c = sym (no_half c.args.self.now.halves.now c.args.side (subst (λ n. length c.args.self.now.halves.now < 32 * n) c.from.ensures c.in_default.ensures.cases))
+pub returns : goal.returns
+returns c =
+    let found = c.in_ok-half.ensures.lookup in
+    ap Some c.from-2.ensures ∙ half_there c.args.self.now.halves.now c.as_chunks.result.0.now c.from.result c.args.side c.in_ok-half.half.now c.as_chunks.ensures.front c.from.ensures found.3.0 (found.3.1 [])

@@ -8,4 +8,4 @@ use Rattle.session_vectors.proofs.session.SessionVector.verifies.Goals as goal
 pub returns : goal.returns
 returns c =
     verified c.verify.result c.args.self.now.called_key c.public_half-half.result.0.bytes c.signed_part.result.now (signed_part c.args.self.now.reply.now) c.signature.result.0.bytes
-    (c.public_half-half.ensures ∙ ap (half stand_in_group) c.secret_key.ensures) c.signed_part.ensures c.signature.ensures c.verify.ensures
+    (c.public_half-half.ensures ∙ ap (half stand_in_group) c.from.ensures) c.signed_part.ensures c.signature.ensures c.verify.ensures

@@ -13,9 +13,9 @@ returns-in_default c =
     let is = sym (none_taken c.args.ciphers.now c.in_default.ensures.cases) in
     record { value = is; exact = told (numbers c.args.ciphers.now) (Err NoCipher) is }
 
-pub returns-then-not-fits : goal.returns-then-not-fits
-returns-then-not-fits c =
-    let is = sym (many_taken c.args.ciphers.now (sym c.if-not-fits.ensures)) in
+pub returns-then-not-can_hold : goal.returns-then-not-can_hold
+returns-then-not-can_hold c =
+    let is = sym (many_taken c.args.ciphers.now (sym c.if-not-can_hold.ensures)) in
     record { value = is; exact = told (numbers c.args.ciphers.now) (Err TooManyCiphers) is }
 
 pub loop-cipher-init : goal.loop-cipher-init
@@ -23,7 +23,7 @@ loop-cipher-init c = begins _ _ _ _ c.in-Some.ensures.cases.0 c.only-preferences
 
 pub returns-in_err-add : goal.returns-in_err-add
 returns-in_err-add c =
-    let few = leb-true (length c.args.ciphers.now) 16 (sym c.if-not-fits.ensures) in
+    let few = leb-true (length c.args.ciphers.now) 16 (sym c.if-not-can_hold.ensures) in
     let bad = stops _ (numbers c.args.ciphers.now) _ _ _ _ c.loop-cipher-test.true c.loop-cipher.invariant (omega (arith, length-map c.args.ciphers.now (λ x. x.number))) c.in_err-add.ensures.0 in
     let p = err_from_is_err_and c.from_residual.result c.from_residual.ensures.1 in
     let is = ap made p.1 ∙ (ap Err p.2 ∙ sym bad) in

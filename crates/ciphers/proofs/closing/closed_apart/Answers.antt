@@ -1,5 +1,0 @@
-use Rattle.ciphers.proofs.Closings.{closed_apart}
-use Rattle.ciphers.proofs.closing.closed_apart.Goals as goal
-
-pub returns : goal.returns
-returns c = closed_apart

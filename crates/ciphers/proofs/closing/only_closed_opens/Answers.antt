@@ -1,5 +1,0 @@
-use Rattle.ciphers.proofs.Closings.{only_closed_opens}
-use Rattle.ciphers.proofs.closing.only_closed_opens.Goals as goal
-
-pub returns : goal.returns
-returns c = only_closed_opens

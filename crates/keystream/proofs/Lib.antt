@@ -1,4 +1,0 @@
-pub mod Rounds
-pub mod Lanes
-pub mod Bytes
-pub mod Turning
