@@ -4,11 +4,11 @@ use Rattle.std.specs.Option.{option_map}
 use Rattle.words.specs.declared.cipher.Cipher.{Cipher}
 use Rattle.words.specs.declared.fault.Fault.{Fault}
 use Rattle.words.specs.declared.fault.Fault.TheVariants.{UnknownSide, NothingInCommon}
+use Rattle.words.specs.declared.preferences.Preferences.{Preferences}
 use Rattle.words.specs.Choice.{choose}
 use Rattle.words.specs.Listed.{listed}
 use Rattle.script.specs.declared.sides.Sides.{Sides}
 use Rattle.script.specs.declared.played.Played.{Played}
-use Rattle.script.specs.declared.played.Played.TheVariants.{Nothing, Chose, Refused}
 use Rattle.script.specs.Lines.{Line, nothing, wishes, calls}
 
 -- by number, the preferences of each side that is there
@@ -36,20 +36,25 @@ abbrev pub chosen : Result Cipher Fault → Result ℕ Fault
 chosen (Ok c) = Ok c.number
 chosen (Err f) = Err f
 
+-- preferences as the list that they stand for
+abbrev pub heard : Result Preferences Fault → Result (List ℕ) Fault
+heard (Ok p) = Ok (listed p)
+heard (Err f) = Err f
+
 -- what a command shows
 pub data Outcome : Type 0 where
   silence : Outcome
   chooses : ℕ → ℕ → ℕ → Outcome
   refuses : ℕ → ℕ → Fault → Outcome
 
-abbrev pub told : Played → Outcome
-told Nothing = silence
-told (Chose a b c) = chooses a.number b.number c.number
-told (Refused a b f) = refuses a.number b.number f
-
 abbrev pub call_outcome : ℕ → ℕ → Result ℕ Fault → Outcome
 call_outcome a b (Ok c) = chooses a b c
 call_outcome a b (Err f) = refuses a b f
+
+-- a call as what it shows
+abbrev pub told : Option Played → Outcome
+told None = silence
+told (Some p) = call_outcome p.call.caller.number p.call.called.number (chosen p.answer)
 
 abbrev pub outcome : Roster → Line → Outcome
 outcome sides nothing = silence

@@ -1,13 +1,15 @@
 // Reads a line of a script from left to right, up to its end or its first fault.
-ghost use Rattle.std.specs.Prelude.{◌≡◌, length, ◌==◌};
+ghost use Rattle.std.specs.Prelude.{◌≡◌, Ok, length, ◌==◌};
 ghost use Rattle.words.specs.Listed.{listed};
-ghost use Rattle.script.specs.Lines.{said, seen, side_of, side_number, ciphers, Wished, side_line, call_line, line};
-ghost use Rattle.script.specs.Text.{word};
+ghost use Rattle.script.specs.declared.expected.Expected.TheVariants.{NumberOfSide, NumberOfCipher};
+ghost use Rattle.script.specs.Lines.{says, said, seen, side_number, number_of, needs, ciphers, Wished, side_line, call_line, line};
+ghost use Rattle.script.specs.Text.{word, decimal};
 
+use crate::call::Call;
 use crate::command::Command;
 use crate::expected::Expected;
 use crate::side_number::SideNumber;
-use crate::text::{before_comment, decimal, is_word, next_word};
+use crate::text::{before_comment, decimal, next_word};
 use words::cipher::Cipher;
 use words::fault::Fault;
 use words::preferences::Preferences;
@@ -19,14 +21,19 @@ fn line_ends(text: &[u8]) -> bool
     next_word(text).0.is_empty()
 }
 
-// A side's number that a word stands for.
-fn side_number(found: &[u8]) -> Option<SideNumber>
-    ensures { side_of result ≡ side_number found.now }
+// The side whose number a word stands for.
+fn read_number(found: &[u8]) -> Result<SideNumber, Expected>
+    ensures { seen number_of result ≡ needs (side_number found.now) NumberOfSide Ok }
 {
-    let Some(number) = decimal(found) else {
-        return None;
-    };
-    SideNumber::new(number)
+    decimal(found).ok_or(Expected::NumberOfSide)?.try_into()
+}
+
+// The cipher whose number a word stands for.
+fn read_cipher(found: &[u8]) -> Result<Cipher, Expected>
+    ensures { seen (λ c. c.number) result ≡ needs (decimal found.now) NumberOfCipher Ok }
+{
+    let number = decimal(found).ok_or(Expected::NumberOfCipher)?;
+    Ok(Cipher::new(number))
 }
 
 // The ciphers up to the line's end.
@@ -34,42 +41,33 @@ fn read_ciphers(text: &[u8]) -> Result<Preferences, Expected>
     ensures { seen listed result ≡ ciphers text.now }
 {
     let (first, mut rest) = next_word(text);
-    let Some(number) = decimal(first) else {
-        return Err(Expected::NumberOfCipher);
-    };
-    let mut preferences = Preferences::only(Cipher::new(number));
+    let mut preferences = Preferences::only(read_cipher(first)?);
     while !line_ends(rest) {
         let (found, after) = next_word(rest);
-        let Some(number) = decimal(found) else {
-            return Err(Expected::NumberOfCipher);
-        };
-        add_cipher(&mut preferences, number)?;
+        add_cipher(&mut preferences, read_cipher(found)?)?;
         rest = after;
     }
     Ok(preferences)
 }
 
 // One cipher more, or what was expected in its place.
-fn add_cipher(preferences: &mut Preferences, number: u8) -> Result<(), Expected>
-    ensures { Wished preferences.old number result preferences.new }
+fn add_cipher(preferences: &mut Preferences, cipher: Cipher) -> Result<(), Expected>
+    ensures { Wished preferences.old cipher.number result preferences.new }
 {
-    match preferences.add(Cipher::new(number)) {
-        Ok(()) => Ok(()),
-        Err(Fault::TooManyCiphers) => Err(Expected::AtMostSixteen),
-        Err(_) => Err(Expected::NoneTwice),
-    }
+    preferences.add(cipher).map_err(|fault| match fault {
+        Fault::TooManyCiphers => Expected::AtMostSixteen,
+        _ => Expected::NoneTwice,
+    })
 }
 
 // After `side`: its number, `wishes` and its ciphers.
 fn read_side(text: &[u8]) -> Result<Command, Expected>
-    ensures { seen said result ≡ side_line text.now }
+    ensures { seen says result ≡ side_line text.now }
 {
     let (found, rest) = next_word(text);
-    let Some(side) = side_number(found) else {
-        return Err(Expected::NumberOfSide);
-    };
+    let side = read_number(found)?;
     let (found, rest) = next_word(rest);
-    if !is_word(found, b"wishes") {
+    if found != b"wishes".as_slice() {
         return Err(Expected::WishesWord);
     }
     let preferences = read_ciphers(rest)?;
@@ -78,35 +76,31 @@ fn read_side(text: &[u8]) -> Result<Command, Expected>
 
 // After `call`: who calls, and who is called.
 fn read_call(text: &[u8]) -> Result<Command, Expected>
-    ensures { seen said result ≡ call_line text.now }
+    ensures { seen says result ≡ call_line text.now }
 {
     let (found, rest) = next_word(text);
-    let Some(caller) = side_number(found) else {
-        return Err(Expected::NumberOfSide);
-    };
+    let caller = read_number(found)?;
     let (found, rest) = next_word(rest);
-    let Some(called) = side_number(found) else {
-        return Err(Expected::NumberOfSide);
-    };
+    let called = read_number(found)?;
     if !line_ends(rest) {
         return Err(Expected::LineEnd);
     }
-    Ok(Command::Call(caller, called))
+    Ok(Command::Call(Call { caller, called }))
 }
 
-// What a line says, or what was expected where it can't be read.
-pub fn read_line(text: &[u8]) -> Result<Command, Expected>
+// What a line says, which is nothing where it is blank, or what was expected where it can't be read.
+pub fn read_line(text: &[u8]) -> Result<Option<Command>, Expected>
     ensures { seen said result ≡ line text.now }
 {
     let (found, rest) = next_word(before_comment(text));
     if found.is_empty() {
-        return Ok(Command::Nothing);
+        return Ok(None);
     }
-    if is_word(found, b"side") {
-        return read_side(rest);
+    if found == b"side".as_slice() {
+        return read_side(rest).map(Some);
     }
-    if is_word(found, b"call") {
-        return read_call(rest);
+    if found == b"call".as_slice() {
+        return read_call(rest).map(Some);
     }
     Err(Expected::CommandName)
 }
