@@ -1,5 +1,6 @@
 -- Words and numbers at the front of a text, a list of bytes. Assumes nothing.
-use Rattle.std.specs.Prelude.{◌≡◌, ℕ, ◌+◌, ◌-◌, ◌*◌, Bool, cond, not, ◌&&◌, ◌||◌, List, [], ◌∷◌, length, Some, None, Option, ◌==◌, nat_le}
+use Rattle.std.specs.Prelude.{◌≡◌, ℕ, ◌+◌, ◌-◌, ◌*◌, Bool, cond, not, ◌&&◌, ◌||◌, List, [], ◌∷◌, length, Some, None, Option, ◌==◌, nat_le, is_none}
+use Rattle.std.specs.Borrow.{Bor}
 
 -- space, tab and carriage return separate words
 abbrev pub blank : ℕ → Bool
@@ -41,6 +42,17 @@ word bs = until blank (from in_word bs)
 
 abbrev pub behind : List ℕ → List ℕ
 behind bs = from blank (from in_word bs)
+
+-- a word that is there, or the empty one where there is none
+abbrev pub spelled : Option (Bor (List ℕ)) → List ℕ
+spelled None = []
+spelled (Some w) = w.now
+
+-- the next word of a text, or none where that would be empty, and what follows it
+pub record NextWord (bs : List ℕ) (found : Option (Bor (List ℕ))) (rest : List ℕ) : Type 0 where
+  pub found_is : spelled found ≡ word bs
+  pub none_where_empty : is_none found ≡ (length (word bs) == 0)
+  pub rest_is : rest ≡ behind bs
 
 -- the largest number of a script, and how many sides it can have
 abbrev pub most_number : ℕ

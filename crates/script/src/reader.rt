@@ -1,51 +1,44 @@
 // Reads a line of a script from left to right, up to its end or its first fault.
-ghost use Rattle.std.specs.Prelude.{◌≡◌, Ok, length, ◌==◌};
+ghost use Rattle.std.specs.Prelude.{◌≡◌, Ok};
 ghost use Rattle.words.specs.Listed.{listed};
 ghost use Rattle.script.specs.declared.expected.Expected.TheVariants.{NumberOfSide, NumberOfCipher};
 ghost use Rattle.script.specs.Lines.{says, said, seen, side_number, number_of, needs, ciphers, Wished, side_line, call_line, line};
-ghost use Rattle.script.specs.Text.{word, decimal};
+ghost use Rattle.script.specs.Text.{spelled, decimal};
 
 use crate::call::Call;
 use crate::command::Command;
 use crate::expected::Expected;
 use crate::side_number::SideNumber;
-use crate::text::{before_comment, decimal, next_word};
+use crate::text::{Words, decimal};
 use words::cipher::Cipher;
 use words::fault::Fault;
 use words::preferences::Preferences;
 
-// Whether no word follows.
-fn line_ends(text: &[u8]) -> bool
-    ensures { result ≡ (length (word text.now) == 0) }
+// The side whose number comes next.
+fn read_number(found: Option<&[u8]>) -> Result<SideNumber, Expected>
+    ensures { seen number_of result ≡ needs (side_number (spelled found.entry)) NumberOfSide Ok }
 {
-    next_word(text).0.is_empty()
+    found
+        .and_then(decimal)
+        .ok_or(Expected::NumberOfSide)?
+        .try_into()
 }
 
-// The side whose number a word stands for.
-fn read_number(found: &[u8]) -> Result<SideNumber, Expected>
-    ensures { seen number_of result ≡ needs (side_number found.now) NumberOfSide Ok }
+// The cipher whose number comes next.
+fn read_cipher(found: Option<&[u8]>) -> Result<Cipher, Expected>
+    ensures { seen (λ c. c.number) result ≡ needs (decimal (spelled found.entry)) NumberOfCipher Ok }
 {
-    decimal(found).ok_or(Expected::NumberOfSide)?.try_into()
-}
-
-// The cipher whose number a word stands for.
-fn read_cipher(found: &[u8]) -> Result<Cipher, Expected>
-    ensures { seen (λ c. c.number) result ≡ needs (decimal found.now) NumberOfCipher Ok }
-{
-    let number = decimal(found).ok_or(Expected::NumberOfCipher)?;
+    let number = found.and_then(decimal).ok_or(Expected::NumberOfCipher)?;
     Ok(Cipher::new(number))
 }
 
 // The ciphers up to the line's end.
-fn read_ciphers(text: &[u8]) -> Result<Preferences, Expected>
-    ensures { seen listed result ≡ ciphers text.now }
+fn read_ciphers(mut words: Words) -> Result<Preferences, Expected>
+    ensures { seen listed result ≡ ciphers words.entry.rest.now }
 {
-    let (first, mut rest) = next_word(text);
-    let mut preferences = Preferences::only(read_cipher(first)?);
-    while !line_ends(rest) {
-        let (found, after) = next_word(rest);
-        add_cipher(&mut preferences, read_cipher(found)?)?;
-        rest = after;
+    let mut preferences = Preferences::only(read_cipher(words.next())?);
+    for found in words {
+        add_cipher(&mut preferences, read_cipher(Some(found))?)?;
     }
     Ok(preferences)
 }
@@ -61,28 +54,24 @@ fn add_cipher(preferences: &mut Preferences, cipher: Cipher) -> Result<(), Expec
 }
 
 // After `side`: its number, `wishes` and its ciphers.
-fn read_side(text: &[u8]) -> Result<Command, Expected>
-    ensures { seen says result ≡ side_line text.now }
+fn read_side(mut words: Words) -> Result<Command, Expected>
+    ensures { seen says result ≡ side_line words.entry.rest.now }
 {
-    let (found, rest) = next_word(text);
-    let side = read_number(found)?;
-    let (found, rest) = next_word(rest);
-    if found != b"wishes".as_slice() {
+    let side = read_number(words.next())?;
+    let Some(b"wishes") = words.next() else {
         return Err(Expected::WishesWord);
-    }
-    let preferences = read_ciphers(rest)?;
+    };
+    let preferences = read_ciphers(words)?;
     Ok(Command::Side(side, preferences))
 }
 
 // After `call`: who calls, and who is called.
-fn read_call(text: &[u8]) -> Result<Command, Expected>
-    ensures { seen says result ≡ call_line text.now }
+fn read_call(mut words: Words) -> Result<Command, Expected>
+    ensures { seen says result ≡ call_line words.entry.rest.now }
 {
-    let (found, rest) = next_word(text);
-    let caller = read_number(found)?;
-    let (found, rest) = next_word(rest);
-    let called = read_number(found)?;
-    if !line_ends(rest) {
+    let caller = read_number(words.next())?;
+    let called = read_number(words.next())?;
+    if words.next().is_some() {
         return Err(Expected::LineEnd);
     }
     Ok(Command::Call(Call { caller, called }))
@@ -92,15 +81,11 @@ fn read_call(text: &[u8]) -> Result<Command, Expected>
 pub fn read_line(text: &[u8]) -> Result<Option<Command>, Expected>
     ensures { seen said result ≡ line text.now }
 {
-    let (found, rest) = next_word(before_comment(text));
-    if found.is_empty() {
-        return Ok(None);
+    let mut words = Words::of(text);
+    match words.next() {
+        None => Ok(None),
+        Some(b"side") => read_side(words).map(Some),
+        Some(b"call") => read_call(words).map(Some),
+        Some(_) => Err(Expected::CommandName),
     }
-    if found == b"side".as_slice() {
-        return read_side(rest).map(Some);
-    }
-    if found == b"call".as_slice() {
-        return read_call(rest).map(Some);
-    }
-    Err(Expected::CommandName)
 }

@@ -1,7 +1,8 @@
 // Words and numbers at the front of a text.
-ghost use Rattle.std.specs.Prelude.{◌≡◌};
+ghost use Rattle.std.specs.Prelude.{◌≡◌, length};
 ghost use Rattle.std.specs.Str.{bytes_eq};
-ghost use Rattle.script.specs.Text.{blank, uncommented, word, behind, with_digit, decimal, Tests, IsCut};
+ghost use Rattle.std.specs.Iterator.{at_most};
+ghost use Rattle.script.specs.Text.{blank, uncommented, word, behind, with_digit, decimal, Tests, IsCut, NextWord};
 
 // Whether a byte separates words.
 fn is_blank(byte: u8) -> bool
@@ -19,19 +20,42 @@ fn cut<F: Fn(u8) -> bool>(text: &[u8], stops: F) -> (&[u8], &[u8])
     text.split_at(stopped.unwrap_or(text.len()))
 }
 
-// What stands before a comment.
-pub fn before_comment(line: &[u8]) -> &[u8]
-    ensures { result.now ≡ uncommented line.now }
-{
-    cut(line, |byte| byte == b'#').0
-}
-
 // The first word, which is empty where there is none, and what follows it.
-pub fn next_word(text: &[u8]) -> (&[u8], &[u8])
+fn next_word(text: &[u8]) -> (&[u8], &[u8])
     ensures front { result.0.now ≡ word text.now }
     ensures back { result.1.now ≡ behind text.now }
 {
     cut(cut(text, |byte| !is_blank(byte)).1, is_blank)
+}
+
+// The words of a text that are still to be read.
+#[derive(Drop)]
+pub struct Words<'a> {
+    rest: &'a [u8],
+}
+
+impl<'a> Words<'a> {
+    // Those of a line that stand before a comment.
+    pub fn of(line: &'a [u8]) -> Words<'a>
+        ensures { result.rest.now ≡ uncommented line.now }
+    {
+        let (rest, _) = cut(line, |byte| byte == b'#');
+        Words { rest }
+    }
+}
+
+impl<'a> Iterator for Words<'a> {
+    type Item = &'a [u8];
+
+    ghost next_gives = { λ before found after. NextWord before.rest.now found after.rest.now };
+
+    ghost remaining = { λ words. at_most (length words.rest.now) };
+
+    fn next(&mut self) -> Option<&'a [u8]> {
+        let (found, rest) = next_word(self.rest);
+        self.rest = rest;
+        if found.is_empty() { None } else { Some(found) }
+    }
 }
 
 // A number with one more digit behind it, if the byte is a digit and the number is below 256.
