@@ -34,7 +34,7 @@ fn read_cipher(found: Option<&[u8]>) -> Result<Cipher, Expected>
 
 // The ciphers up to the line's end.
 fn read_ciphers(mut words: Words) -> Result<Preferences, Expected>
-    ensures { seen listed result ≡ ciphers words.entry.rest.now }
+    ensures { seen listed result ≡ ciphers words.entry }
 {
     let mut preferences = Preferences::only(read_cipher(words.next())?);
     for found in words {
@@ -55,7 +55,7 @@ fn add_cipher(preferences: &mut Preferences, cipher: Cipher) -> Result<(), Expec
 
 // After `side`: its number, `wishes` and its ciphers.
 fn read_side(mut words: Words) -> Result<Command, Expected>
-    ensures { seen says result ≡ side_line words.entry.rest.now }
+    ensures { seen says result ≡ side_line words.entry }
 {
     let side = read_number(words.next())?;
     let Some(b"wishes") = words.next() else {
@@ -67,7 +67,7 @@ fn read_side(mut words: Words) -> Result<Command, Expected>
 
 // After `call`: who calls, and who is called.
 fn read_call(mut words: Words) -> Result<Command, Expected>
-    ensures { seen says result ≡ call_line words.entry.rest.now }
+    ensures { seen says result ≡ call_line words.entry }
 {
     let caller = read_number(words.next())?;
     let called = read_number(words.next())?;

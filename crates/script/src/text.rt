@@ -1,8 +1,9 @@
 // Words and numbers at the front of a text.
-ghost use Rattle.std.specs.Prelude.{◌≡◌, length};
-ghost use Rattle.std.specs.Str.{bytes_eq};
+ghost use Rattle.std.specs.Prelude.{◌≡◌, List, ℕ, length};
 ghost use Rattle.std.specs.Iterator.{at_most};
 ghost use Rattle.script.specs.Text.{blank, uncommented, word, behind, with_digit, decimal, Tests, IsCut, NextWord};
+
+use std::marker::Model;
 
 // Whether a byte separates words.
 fn is_blank(byte: u8) -> bool
@@ -28,16 +29,22 @@ fn next_word(text: &[u8]) -> (&[u8], &[u8])
     cut(cut(text, |byte| !is_blank(byte)).1, is_blank)
 }
 
-// The words of a text that are still to be read.
+// The words of a text that are still to be read, seen as that text.
 #[derive(Drop)]
 pub struct Words<'a> {
     rest: &'a [u8],
 }
 
+impl<'a> Model for Words<'a> {
+    ghost Value = { List ℕ };
+
+    ghost view = { λ words. words.rest.now };
+}
+
 impl<'a> Words<'a> {
     // Those of a line that stand before a comment.
     pub fn of(line: &'a [u8]) -> Words<'a>
-        ensures { result.rest.now ≡ uncommented line.now }
+        ensures { result ≡ uncommented line.now }
     {
         let (rest, _) = cut(line, |byte| byte == b'#');
         Words { rest }
@@ -47,9 +54,9 @@ impl<'a> Words<'a> {
 impl<'a> Iterator for Words<'a> {
     type Item = &'a [u8];
 
-    ghost next_gives = { λ before found after. NextWord before.rest.now found after.rest.now };
+    ghost next_gives = { NextWord };
 
-    ghost remaining = { λ words. at_most (length words.rest.now) };
+    ghost remaining = { λ words. at_most (length words) };
 
     fn next(&mut self) -> Option<&'a [u8]> {
         let (found, rest) = next_word(self.rest);

@@ -7,4 +7,4 @@ use Rattle.script.proofs.reader.read_ciphers.Given as goal
 
 abbrev pub invariant-loop-found : goal.invariant-loop-found
 invariant-loop-found l =
-    more_ciphers (most_ciphers - length (listed l.preferences)) (listed l.preferences) l.found-iterator.rest.now ≡ ciphers l.fn.words.rest.now
+    more_ciphers (most_ciphers - length (listed l.preferences)) (listed l.preferences) l.found-iterator ≡ ciphers l.fn.words
