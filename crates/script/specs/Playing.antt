@@ -4,7 +4,6 @@ use Rattle.std.specs.Option.{option_map}
 use Rattle.words.specs.declared.cipher.Cipher.{Cipher}
 use Rattle.words.specs.declared.fault.Fault.{Fault}
 use Rattle.words.specs.declared.fault.Fault.TheVariants.{UnknownSide, NothingInCommon}
-use Rattle.words.specs.declared.preferences.Preferences.{Preferences}
 use Rattle.words.specs.Choice.{choose}
 use Rattle.words.specs.Listed.{listed}
 use Rattle.script.specs.declared.sides.Sides.{Sides}
@@ -35,11 +34,6 @@ answer sides a b = there (slice_index_or sides a None) (λ offer. there (slice_i
 abbrev pub chosen : Result Cipher Fault → Result ℕ Fault
 chosen (Ok c) = Ok c.number
 chosen (Err f) = Err f
-
--- preferences as the list that they stand for
-abbrev pub heard : Result Preferences Fault → Result (List ℕ) Fault
-heard (Ok p) = Ok (listed p)
-heard (Err f) = Err f
 
 -- what a command shows
 pub data Outcome : Type 0 where

@@ -1,8 +1,8 @@
 // How sides are set, how they call each other, and what a command does to them.
 ghost use Rattle.std.specs.Prelude.{◌≡◌, set, replicate, Some, None, Ok, slice_index_or, slice_set};
-ghost use Rattle.words.specs.Listed.{listed};
+ghost use Rattle.words.specs.Listed.{listed, made};
 ghost use Rattle.script.specs.Lines.{said};
-ghost use Rattle.script.specs.Playing.{roster, chosen, heard, there, answer, told, outcome, after};
+ghost use Rattle.script.specs.Playing.{roster, chosen, there, answer, told, outcome, after};
 ghost use Rattle.script.specs.Text.{most_sides};
 
 use crate::call::Call;
@@ -41,7 +41,7 @@ impl Sides {
 
     // The preferences of a side, which must be there.
     fn preferences(&self, side: SideNumber) -> Result<Preferences, Fault>
-        ensures { heard result ≡ there (slice_index_or (roster self.now) side.number None) Ok }
+        ensures { made result ≡ there (slice_index_or (roster self.now) side.number None) Ok }
     {
         self.slots[u8::from(side) as usize].ok_or(Fault::UnknownSide)
     }
