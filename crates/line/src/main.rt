@@ -1,7 +1,6 @@
 // Plays scripts of sides that call each other, from files or standard input, and prints what each call comes to.
 #![tactic(auto)]
 
-use script::played::Played;
 use script::reader::read_line;
 use script::sides::Sides;
 use std::io::{BufRead, BufReader, Read};
@@ -17,20 +16,20 @@ fn run(rt: &HostRuntime) -> io::Result<()> {
     let Some(first) = names.next() else {
         return play(rt, rt.stdin());
     };
-    play_named(rt, &first)?;
+    play_named(rt, first.as_str())?;
     for name in names {
-        play_named(rt, &name)?;
+        play_named(rt, name.as_str())?;
     }
     Ok(())
 }
 
 // Plays the script of a file, or of standard input where the name is `-`, under its name.
-fn play_named(rt: &HostRuntime, name: &String) -> io::Result<()> {
+fn play_named(rt: &HostRuntime, name: &str) -> io::Result<()> {
     println!(rt; "{name}:")?;
-    if name.as_str() == "-" {
+    if name == "-" {
         play(rt, rt.stdin())
     } else {
-        play(rt, fs::open(rt, name.as_str())?)
+        play(rt, fs::open(rt, name)?)
     }
 }
 
@@ -42,7 +41,11 @@ fn play<R: Read + Drop>(rt: &HostRuntime, script: R) -> io::Result<()> {
         .enumerate()
     {
         match read_line(line?.as_slice()) {
-            Ok(command) => show(rt, sides.play(command))?,
+            Ok(command) => {
+                if let Some(played) = sides.play(command) {
+                    println!(rt; "{played}")?;
+                }
+            }
             Err(expected) => {
                 let number = above.saturating_add(1);
                 return println!(rt; "line {number}: expected {expected}");
@@ -50,12 +53,4 @@ fn play<R: Read + Drop>(rt: &HostRuntime, script: R) -> io::Result<()> {
         }
     }
     Ok(())
-}
-
-// A line for what there is to show.
-fn show(rt: &HostRuntime, played: Played) -> io::Result<()> {
-    match played {
-        Played::Nothing => Ok(()),
-        _ => println!(rt; "{played}"),
-    }
 }

@@ -3,10 +3,9 @@ use Rattle.std.proofs.Common.{◌≡◌, ℕ, ◌<◌, Bool, true, false, cond, 
 use Rattle.std.proofs.lemmas.List.{get_or-set_same, get_or-set_other}
 use Rattle.std.proofs.lemmas.Bool.{cond-true, cond-false, eqb-true, eqb-false, not_from_true}
 use Rattle.std.proofs.lemmas.Bool.Decides.{nat_tests}
-use Rattle.script.specs.declared.text.Stop.TheVariants.{AtBlank, AtWord}
 use Rattle.script.specs.Laws.{Ignored, LatestHold, latest}
 use Rattle.script.specs.Lines.{nothing, wishes, calls, first_word}
-use Rattle.script.specs.Text.{blank, hash, stops, until, from, uncommented, word, behind}
+use Rattle.script.specs.Text.{blank, hash, in_word, until, from, uncommented, word, behind}
 
 cut_again : (bs more : List ℕ) (h : ℕ) → hash h ≡ true → uncommented (uncommented bs ++ h ∷ more) ≡ uncommented bs
 unfolding until
@@ -21,14 +20,14 @@ blank_no_hash : (b : ℕ) → blank b ≡ true → hash b ≡ false
 blank_no_hash b h = grind (arith, nat_tests)
 
 -- a blank in front of the first word is skipped
-skipped : (bs : List ℕ) (b : ℕ) → blank b ≡ true → from (stops AtWord) (uncommented (b ∷ bs)) ≡ from (stops AtWord) (uncommented bs)
+skipped : (bs : List ℕ) (b : ℕ) → blank b ≡ true → from in_word (uncommented (b ∷ bs)) ≡ from in_word (uncommented bs)
 unfolding until from
-skipped bs b is = ap (from (stops AtWord)) (cond-false _ _ _ (blank_no_hash b is)) ∙ cond-false _ _ _ (not_from_true _ is)
+skipped bs b is = ap (from in_word) (cond-false _ _ _ (blank_no_hash b is)) ∙ cond-false _ _ _ (not_from_true _ is)
 
 pub ignored : Ignored
 ignored = record {
   comments = λ bs more h is. ap (λ u. first_word (word u) (behind u)) (cut_again bs more h is);
-  blanks = λ bs b is. ap (λ t. first_word (until (stops AtBlank) t) (from (stops AtBlank) t)) (skipped bs b is);
+  blanks = λ bs b is. ap (λ t. first_word (until blank t) (from blank t)) (skipped bs b is);
 }
 
 pub latest_hold : LatestHold

@@ -1,13 +1,12 @@
 -- What a line of a script says, and what was expected where it can't be read. Assumes nothing.
 use Rattle.std.specs.Prelude.{◌≡◌, ℕ, zero, suc, cond, List, [], ◌∷◌, ◌++◌, length, Some, None, Ok, Err, codes, Option, Result, ◌==◌, nat_lt}
-use Rattle.std.specs.Option.{option_map}
 use Rattle.std.specs.Str.{bytes_eq}
 use Rattle.words.specs.declared.preferences.Preferences.{Preferences}
 use Rattle.words.specs.Choice.{holds, most_ciphers}
 use Rattle.words.specs.Listed.{listed}
 use Rattle.script.specs.declared.side_number.SideNumber.{SideNumber}
 use Rattle.script.specs.declared.command.Command.{Command}
-use Rattle.script.specs.declared.command.Command.TheVariants.{Nothing, Side, Call}
+use Rattle.script.specs.declared.command.Command.TheVariants.{Side, Call}
 use Rattle.script.specs.declared.expected.Expected.{Expected}
 use Rattle.script.specs.declared.expected.Expected.TheVariants.{CommandName, NumberOfSide, WishesWord, NumberOfCipher, AtMostSixteen, NoneTwice, LineEnd}
 use Rattle.script.specs.Text.{uncommented, word, behind, decimal, and_then, most_sides}
@@ -19,18 +18,27 @@ pub data Line : Type 0 where
   calls : ℕ → ℕ → Line
 
 -- a command as what its line says
-abbrev pub said : Command → Line
-said Nothing = nothing
-said (Side n p) = wishes n.number (listed p)
-said (Call a b) = calls a.number b.number
+abbrev pub says : Command → Line
+says (Side n p) = wishes n.number (listed p)
+says (Call c) = calls c.caller.number c.called.number
+
+-- the same of a line that may have no command, which says nothing
+abbrev pub said : Option Command → Line
+said None = nothing
+said (Some c) = says c
 
 -- an answer with one value as one with what it stands for
 abbrev pub seen : {X Y : Type 0} → (X → Y) → Result X Expected → Result Y Expected
 seen view (Ok x) = Ok (view x)
 seen view (Err e) = Err e
 
-abbrev pub side_of : Option SideNumber → Option ℕ
-side_of n = option_map (λ s. s.number) n
+-- a side as its number
+abbrev pub number_of : SideNumber → ℕ
+number_of s = s.number
+
+-- the side with a number, if there can be one, or else that its number was expected
+abbrev pub Numbered : ℕ → Result SideNumber Expected → Type 0
+Numbered n side = seen number_of side ≡ cond (nat_lt n most_sides) (Ok n) (Err NumberOfSide)
 
 -- a side's number
 abbrev pub side_number : List ℕ → Option ℕ

@@ -8,7 +8,6 @@ use Rattle.words.specs.Choice.{choose}
 use Rattle.words.specs.Listed.{listed}
 use Rattle.script.specs.declared.sides.Sides.{Sides}
 use Rattle.script.specs.declared.played.Played.{Played}
-use Rattle.script.specs.declared.played.Played.TheVariants.{Nothing, Chose, Refused}
 use Rattle.script.specs.Lines.{Line, nothing, wishes, calls}
 
 -- by number, the preferences of each side that is there
@@ -42,14 +41,14 @@ pub data Outcome : Type 0 where
   chooses : ℕ → ℕ → ℕ → Outcome
   refuses : ℕ → ℕ → Fault → Outcome
 
-abbrev pub told : Played → Outcome
-told Nothing = silence
-told (Chose a b c) = chooses a.number b.number c.number
-told (Refused a b f) = refuses a.number b.number f
-
 abbrev pub call_outcome : ℕ → ℕ → Result ℕ Fault → Outcome
 call_outcome a b (Ok c) = chooses a b c
 call_outcome a b (Err f) = refuses a b f
+
+-- a call as what it shows
+abbrev pub told : Option Played → Outcome
+told None = silence
+told (Some p) = call_outcome p.call.caller.number p.call.called.number (chosen p.answer)
 
 abbrev pub outcome : Roster → Line → Outcome
 outcome sides nothing = silence

@@ -1,7 +1,6 @@
 -- Words and numbers at the front of a text, a list of bytes. Assumes nothing.
-use Rattle.std.specs.Prelude.{◌≡◌, ℕ, ◌+◌, ◌-◌, ◌*◌, ◌<◌, ◌≤◌, Bool, true, false, cond, not, ◌&&◌, ◌||◌, List, [], ◌∷◌, length, Some, None, Option, ◌==◌, nat_le, slice_index}
-use Rattle.script.specs.declared.text.Stop.{Stop}
-use Rattle.script.specs.declared.text.Stop.TheVariants.{AtBlank, AtWord, AtComment}
+use Rattle.std.specs.Prelude.{◌≡◌, ℕ, ◌+◌, ◌-◌, ◌*◌, Bool, cond, not, ◌&&◌, ◌||◌, List, [], ◌∷◌, length, Some, None, Option, ◌==◌, nat_le, is_none}
+use Rattle.std.specs.Borrow.{Bor}
 
 -- space, tab and carriage return separate words
 abbrev pub blank : ℕ → Bool
@@ -11,10 +10,9 @@ blank b = b == 32 || b == 9 || b == 13
 abbrev pub hash : ℕ → Bool
 hash b = b == 35
 
-abbrev pub stops : Stop → ℕ → Bool
-stops AtBlank b = blank b
-stops AtWord b = not (blank b)
-stops AtComment b = hash b
+-- every other byte stands in a word
+abbrev pub in_word : ℕ → Bool
+in_word b = not (blank b)
 
 -- what stands before the first byte that stops
 unfoldable pub until : (ℕ → Bool) → List ℕ → List ℕ
@@ -26,21 +24,35 @@ unfoldable pub from : (ℕ → Bool) → List ℕ → List ℕ
 from stop [] = []
 from stop (b ∷ bs) = cond (stop b) (b ∷ bs) (from stop bs)
 
--- the first n bytes don't stop, and the next one does if there is one
-pub record StopsAt (stop : Stop) (bs : List ℕ) (n : ℕ) : Type 0 where
-  pub within : n ≤ length bs
-  pub passes : (k : ℕ) → k < n → stops stop (slice_index bs k) ≡ false
-  pub stopped : n < length bs → stops stop (slice_index bs n) ≡ true
+-- a text in two parts, cut before the first byte that stops
+pub record IsCut (stop : ℕ → Bool) (bs front back : List ℕ) : Type 0 where
+  pub front_is : front ≡ until stop bs
+  pub back_is : back ≡ from stop bs
+
+-- each answer about a byte, as given by a closure, is what a test answers
+pub record Tests (gives : ℕ → Bool → Type 0) (test : ℕ → Bool) : Type 0 where
+  pub each : (b : ℕ) (answer : Bool) → gives b answer → answer ≡ test b
 
 abbrev pub uncommented : List ℕ → List ℕ
-uncommented line = until (stops AtComment) line
+uncommented line = until hash line
 
 -- the first word, empty where there is none, and what follows it
 abbrev pub word : List ℕ → List ℕ
-word bs = until (stops AtBlank) (from (stops AtWord) bs)
+word bs = until blank (from in_word bs)
 
 abbrev pub behind : List ℕ → List ℕ
-behind bs = from (stops AtBlank) (from (stops AtWord) bs)
+behind bs = from blank (from in_word bs)
+
+-- a word that is there, or the empty one where there is none
+abbrev pub spelled : Option (Bor (List ℕ)) → List ℕ
+spelled None = []
+spelled (Some w) = w.now
+
+-- the next word of a text, or none where that would be empty, and what follows it
+pub record NextWord (bs : List ℕ) (found : Option (Bor (List ℕ))) (rest : List ℕ) : Type 0 where
+  pub found_is : spelled found ≡ word bs
+  pub none_where_empty : is_none found ≡ (length (word bs) == 0)
+  pub rest_is : rest ≡ behind bs
 
 -- the largest number of a script, and how many sides it can have
 abbrev pub most_number : ℕ

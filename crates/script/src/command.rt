@@ -1,13 +1,12 @@
-// What a line of a script says.
+// What a line of a script says, if it says anything.
+use crate::call::Call;
 use crate::side_number::SideNumber;
 use words::preferences::Preferences;
 
 #[derive(Clone, Copy)]
 pub enum Command {
-    // a blank line, or a comment alone
-    Nothing,
     // a side is there, with these preferences
     Side(SideNumber, Preferences),
-    // the first side calls the second
-    Call(SideNumber, SideNumber),
+    // one side calls another, or itself
+    Call(Call),
 }

@@ -1,112 +1,91 @@
 // Reads a line of a script from left to right, up to its end or its first fault.
-ghost use Rattle.std.specs.Prelude.{◌≡◌, length, ◌==◌};
+ghost use Rattle.std.specs.Prelude.{◌≡◌, Ok};
 ghost use Rattle.words.specs.Listed.{listed};
-ghost use Rattle.script.specs.Lines.{said, seen, side_of, side_number, ciphers, Wished, side_line, call_line, line};
-ghost use Rattle.script.specs.Text.{word};
+ghost use Rattle.script.specs.declared.expected.Expected.TheVariants.{NumberOfSide, NumberOfCipher};
+ghost use Rattle.script.specs.Lines.{says, said, seen, side_number, number_of, needs, ciphers, Wished, side_line, call_line, line};
+ghost use Rattle.script.specs.Text.{spelled, decimal};
 
+use crate::call::Call;
 use crate::command::Command;
 use crate::expected::Expected;
 use crate::side_number::SideNumber;
-use crate::text::{before_comment, decimal, is_word, next_word};
+use crate::text::{Words, decimal};
 use words::cipher::Cipher;
 use words::fault::Fault;
 use words::preferences::Preferences;
 
-// Whether no word follows.
-fn line_ends(text: &[u8]) -> bool
-    ensures { result ≡ (length (word text.now) == 0) }
+// The side whose number comes next.
+fn read_number(found: Option<&[u8]>) -> Result<SideNumber, Expected>
+    ensures { seen number_of result ≡ needs (side_number (spelled found.entry)) NumberOfSide Ok }
 {
-    next_word(text).0.is_empty()
+    found
+        .and_then(decimal)
+        .ok_or(Expected::NumberOfSide)?
+        .try_into()
 }
 
-// A side's number that a word stands for.
-fn side_number(found: &[u8]) -> Option<SideNumber>
-    ensures { side_of result ≡ side_number found.now }
+// The cipher whose number comes next.
+fn read_cipher(found: Option<&[u8]>) -> Result<Cipher, Expected>
+    ensures { seen (λ c. c.number) result ≡ needs (decimal (spelled found.entry)) NumberOfCipher Ok }
 {
-    let Some(number) = decimal(found) else {
-        return None;
-    };
-    SideNumber::new(number)
+    let number = found.and_then(decimal).ok_or(Expected::NumberOfCipher)?;
+    Ok(Cipher::new(number))
 }
 
 // The ciphers up to the line's end.
-fn read_ciphers(text: &[u8]) -> Result<Preferences, Expected>
-    ensures { seen listed result ≡ ciphers text.now }
+fn read_ciphers(mut words: Words) -> Result<Preferences, Expected>
+    ensures { seen listed result ≡ ciphers words.entry }
 {
-    let (first, mut rest) = next_word(text);
-    let Some(number) = decimal(first) else {
-        return Err(Expected::NumberOfCipher);
-    };
-    let mut preferences = Preferences::only(Cipher::new(number));
-    while !line_ends(rest) {
-        let (found, after) = next_word(rest);
-        let Some(number) = decimal(found) else {
-            return Err(Expected::NumberOfCipher);
-        };
-        add_cipher(&mut preferences, number)?;
-        rest = after;
+    let mut preferences = Preferences::only(read_cipher(words.next())?);
+    for found in words {
+        add_cipher(&mut preferences, read_cipher(Some(found))?)?;
     }
     Ok(preferences)
 }
 
 // One cipher more, or what was expected in its place.
-fn add_cipher(preferences: &mut Preferences, number: u8) -> Result<(), Expected>
-    ensures { Wished preferences.old number result preferences.new }
+fn add_cipher(preferences: &mut Preferences, cipher: Cipher) -> Result<(), Expected>
+    ensures { Wished preferences.old cipher.number result preferences.new }
 {
-    match preferences.add(Cipher::new(number)) {
-        Ok(()) => Ok(()),
-        Err(Fault::TooManyCiphers) => Err(Expected::AtMostSixteen),
-        Err(_) => Err(Expected::NoneTwice),
-    }
+    preferences.add(cipher).map_err(|fault| match fault {
+        Fault::TooManyCiphers => Expected::AtMostSixteen,
+        _ => Expected::NoneTwice,
+    })
 }
 
 // After `side`: its number, `wishes` and its ciphers.
-fn read_side(text: &[u8]) -> Result<Command, Expected>
-    ensures { seen said result ≡ side_line text.now }
+fn read_side(mut words: Words) -> Result<Command, Expected>
+    ensures { seen says result ≡ side_line words.entry }
 {
-    let (found, rest) = next_word(text);
-    let Some(side) = side_number(found) else {
-        return Err(Expected::NumberOfSide);
-    };
-    let (found, rest) = next_word(rest);
-    if !is_word(found, b"wishes") {
+    let side = read_number(words.next())?;
+    let Some(b"wishes") = words.next() else {
         return Err(Expected::WishesWord);
-    }
-    let preferences = read_ciphers(rest)?;
+    };
+    let preferences = read_ciphers(words)?;
     Ok(Command::Side(side, preferences))
 }
 
 // After `call`: who calls, and who is called.
-fn read_call(text: &[u8]) -> Result<Command, Expected>
-    ensures { seen said result ≡ call_line text.now }
+fn read_call(mut words: Words) -> Result<Command, Expected>
+    ensures { seen says result ≡ call_line words.entry }
 {
-    let (found, rest) = next_word(text);
-    let Some(caller) = side_number(found) else {
-        return Err(Expected::NumberOfSide);
-    };
-    let (found, rest) = next_word(rest);
-    let Some(called) = side_number(found) else {
-        return Err(Expected::NumberOfSide);
-    };
-    if !line_ends(rest) {
+    let caller = read_number(words.next())?;
+    let called = read_number(words.next())?;
+    if words.next().is_some() {
         return Err(Expected::LineEnd);
     }
-    Ok(Command::Call(caller, called))
+    Ok(Command::Call(Call { caller, called }))
 }
 
-// What a line says, or what was expected where it can't be read.
-pub fn read_line(text: &[u8]) -> Result<Command, Expected>
+// What a line says, which is nothing where it is blank, or what was expected where it can't be read.
+pub fn read_line(text: &[u8]) -> Result<Option<Command>, Expected>
     ensures { seen said result ≡ line text.now }
 {
-    let (found, rest) = next_word(before_comment(text));
-    if found.is_empty() {
-        return Ok(Command::Nothing);
+    let mut words = Words::of(text);
+    match words.next() {
+        None => Ok(None),
+        Some(b"side") => read_side(words).map(Some),
+        Some(b"call") => read_call(words).map(Some),
+        Some(_) => Err(Expected::CommandName),
     }
-    if is_word(found, b"side") {
-        return read_side(rest);
-    }
-    if is_word(found, b"call") {
-        return read_call(rest);
-    }
-    Err(Expected::CommandName)
 }

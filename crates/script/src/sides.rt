@@ -7,6 +7,7 @@ use words::preferences::Preferences;
 mod methods;
 
 // A slot for each number that a side can have; a side that isn't there has an empty one.
+// No model: seen as its roster it would forget what stands behind each count, and Copy needs the fields back.
 #[derive(Clone, Copy)]
 pub struct Sides {
     slots: [Option<Preferences>; 8],

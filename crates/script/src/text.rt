@@ -1,15 +1,9 @@
 // Words and numbers at the front of a text.
-ghost use Rattle.std.specs.Prelude.{◌≡◌};
-ghost use Rattle.std.specs.Str.{bytes_eq};
-ghost use Rattle.script.specs.Text.{blank, stops, until, from, uncommented, word, behind, with_digit, decimal, StopsAt};
+ghost use Rattle.std.specs.Prelude.{◌≡◌, List, ℕ, length};
+ghost use Rattle.std.specs.Iterator.{at_most};
+ghost use Rattle.script.specs.Text.{blank, uncommented, word, behind, with_digit, decimal, Tests, IsCut, NextWord};
 
-// Where a text is cut.
-#[derive(Clone, Copy)]
-pub enum Stop {
-    AtBlank,
-    AtWord,
-    AtComment,
-}
+use std::marker::Model;
 
 // Whether a byte separates words.
 fn is_blank(byte: u8) -> bool
@@ -18,73 +12,67 @@ fn is_blank(byte: u8) -> bool
     byte == b' ' || byte == b'\t' || byte == b'\r'
 }
 
-impl Stop {
-    // Whether the text is cut before this byte.
-    fn stops(self, byte: u8) -> bool
-        ensures { result ≡ stops self byte }
-    {
-        match self {
-            Stop::AtBlank => is_blank(byte),
-            Stop::AtWord => !is_blank(byte),
-            Stop::AtComment => byte == b'#',
-        }
-    }
-}
-
-// How many bytes stand before the first that stops.
-fn length_until(text: &[u8], stop: Stop) -> usize
-    ensures { StopsAt stop text.now result }
-{
-    for (i, byte) in text.iter().enumerate() {
-        if stop.stops(*byte) {
-            return i;
-        }
-    }
-    text.len()
-}
-
 // What stands before the first byte that stops, and the rest.
-fn cut(text: &[u8], stop: Stop) -> (&[u8], &[u8])
-    ensures front { result.0.now ≡ until (stops stop) text.now }
-    ensures back { result.1.now ≡ from (stops stop) text.now }
+fn cut<F: Fn(u8) -> bool>(text: &[u8], stops: F) -> (&[u8], &[u8])
+    requires { F.IsAlwaysCallable stops }
+    ensures { (stop : _) → Tests (F.post stops) stop → IsCut stop text.now result.0.now result.1.now }
 {
-    text.split_at(length_until(text, stop))
-}
-
-// What stands before a comment.
-pub fn before_comment(line: &[u8]) -> &[u8]
-    ensures { result.now ≡ uncommented line.now }
-{
-    cut(line, Stop::AtComment).0
+    let stopped = text.iter().position(|byte| stops(*byte));
+    text.split_at(stopped.unwrap_or(text.len()))
 }
 
 // The first word, which is empty where there is none, and what follows it.
-pub fn next_word(text: &[u8]) -> (&[u8], &[u8])
+fn next_word(text: &[u8]) -> (&[u8], &[u8])
     ensures front { result.0.now ≡ word text.now }
     ensures back { result.1.now ≡ behind text.now }
 {
-    cut(cut(text, Stop::AtWord).1, Stop::AtBlank)
+    cut(cut(text, |byte| !is_blank(byte)).1, is_blank)
 }
 
-// Whether a word is this one.
-pub fn is_word(found: &[u8], sought: &[u8]) -> bool
-    ensures { result ≡ bytes_eq found.now sought.now }
-{
-    found == sought
+// The words of a text that are still to be read, seen as that text.
+#[derive(Drop)]
+pub struct Words<'a> {
+    rest: &'a [u8],
+}
+
+impl<'a> Model for Words<'a> {
+    ghost Value = { List ℕ };
+
+    ghost view = { λ words. words.rest.now };
+}
+
+impl<'a> Words<'a> {
+    // Those of a line that stand before a comment.
+    pub fn of(line: &'a [u8]) -> Words<'a>
+        ensures { result ≡ uncommented line.now }
+    {
+        let (rest, _) = cut(line, |byte| byte == b'#');
+        Words { rest }
+    }
+}
+
+impl<'a> Iterator for Words<'a> {
+    type Item = &'a [u8];
+
+    ghost next_gives = { NextWord };
+
+    ghost remaining = { λ words. at_most (length words) };
+
+    fn next(&mut self) -> Option<&'a [u8]> {
+        let (found, rest) = next_word(self.rest);
+        self.rest = rest;
+        if found.is_empty() { None } else { Some(found) }
+    }
 }
 
 // A number with one more digit behind it, if the byte is a digit and the number is below 256.
 fn with_digit(number: u8, byte: u8) -> Option<u8>
     ensures { result ≡ with_digit number byte }
 {
-    if byte < b'0' || byte > b'9' {
+    if !byte.is_ascii_digit() {
         return None;
     }
-    let longer = u16::from(number) * 10 + u16::from(byte - b'0');
-    if longer > 255 {
-        return None;
-    }
-    Some(longer as u8)
+    number.checked_mul(10)?.checked_add(byte - b'0')
 }
 
 // The number that a word of decimal digits stands for, if it is below 256.
@@ -96,10 +84,7 @@ pub fn decimal(digits: &[u8]) -> Option<u8>
     }
     let mut number = 0;
     for digit in digits {
-        let Some(longer) = with_digit(number, *digit) else {
-            return None;
-        };
-        number = longer;
+        number = with_digit(number, *digit)?;
     }
     Some(number)
 }

@@ -1,27 +1,38 @@
 // How a side's number is made and read.
-ghost use Rattle.std.specs.Prelude.{◌≡◌, if◌then◌else◌, Some, None, nat_lt};
-ghost use Rattle.script.specs.Lines.{side_of};
-ghost use Rattle.script.specs.Text.{most_sides};
+ghost use Rattle.std.specs.Prelude.{◌≡◌};
+ghost use Rattle.script.specs.Lines.{Numbered};
 
+use crate::expected::Expected;
 use crate::side_number::SideNumber;
+use std::fmt;
 
 // How many sides a script can have.
 const MOST_SIDES: u8 = 8;
 
-impl SideNumber {
-    pub fn new(number: u8) -> Option<SideNumber>
-        ensures { side_of result ≡ (if nat_lt number most_sides then Some number else None) }
-    {
+impl TryFrom<u8> for SideNumber {
+    type Error = Expected;
+
+    ghost try_from_gives = { Numbered };
+
+    fn try_from(number: u8) -> Result<SideNumber, Expected> {
         if number < MOST_SIDES {
-            Some(SideNumber { number })
+            Ok(SideNumber { number })
         } else {
-            None
+            Err(Expected::NumberOfSide)
         }
     }
+}
 
-    pub fn number(self) -> u8
-        ensures { result ≡ self.number }
-    {
-        self.number
+impl From<SideNumber> for u8 {
+    ghost from_gives = { λ s n. n ≡ s.number };
+
+    fn from(side: SideNumber) -> u8 {
+        side.number
+    }
+}
+
+impl fmt::Display for SideNumber {
+    fn fmt<W: fmt::Write>(&self, f: &mut fmt::Formatter<W>) -> fmt::Result {
+        write!(f, "{}", self.number)
     }
 }

@@ -1,11 +1,11 @@
 // How sides are set, how they call each other, and what a command does to them.
-ghost use Rattle.std.specs.Prelude.{◌≡◌, set, replicate, Some, None, slice_index_or, slice_set};
-ghost use Rattle.std.specs.Option.{option_map};
-ghost use Rattle.words.specs.Listed.{listed};
+ghost use Rattle.std.specs.Prelude.{◌≡◌, set, replicate, Some, None, Ok, slice_index_or, slice_set};
+ghost use Rattle.words.specs.Listed.{listed, made};
 ghost use Rattle.script.specs.Lines.{said};
-ghost use Rattle.script.specs.Playing.{roster, chosen, answer, told, outcome, after};
+ghost use Rattle.script.specs.Playing.{roster, chosen, there, answer, told, outcome, after};
 ghost use Rattle.script.specs.Text.{most_sides};
 
+use crate::call::Call;
 use crate::command::Command;
 use crate::played::Played;
 use crate::side_number::SideNumber;
@@ -27,47 +27,39 @@ impl Sides {
     pub fn set(&mut self, side: SideNumber, preferences: Preferences)
         ensures { roster self.new ≡ slice_set (roster self.old) side.number (Some (listed preferences)) }
     {
-        self.slots[side.number() as usize] = Some(preferences);
+        self.slots[u8::from(side) as usize] = Some(preferences);
     }
 
     // The called side's choice among what the caller offers.
-    pub fn call(&self, caller: SideNumber, called: SideNumber) -> Result<Cipher, Fault>
-        ensures { chosen result ≡ answer (roster self.now) caller.number called.number }
+    pub fn call(&self, call: Call) -> Result<Cipher, Fault>
+        ensures { chosen result ≡ answer (roster self.now) call.caller.number call.called.number }
     {
-        let Some(offer) = self.preferences(caller) else {
-            return Err(Fault::UnknownSide);
-        };
-        let Some(preferences) = self.preferences(called) else {
-            return Err(Fault::UnknownSide);
-        };
-        let Some(cipher) = choose(&preferences, &offer) else {
-            return Err(Fault::NothingInCommon);
-        };
-        Ok(cipher)
+        let offer = self.preferences(call.caller)?;
+        let preferences = self.preferences(call.called)?;
+        choose(&preferences, &offer).ok_or(Fault::NothingInCommon)
     }
 
-    // The preferences of a side, if it is there.
-    fn preferences(&self, side: SideNumber) -> Option<Preferences>
-        ensures { option_map listed result ≡ slice_index_or (roster self.now) side.number None }
+    // The preferences of a side, which must be there.
+    fn preferences(&self, side: SideNumber) -> Result<Preferences, Fault>
+        ensures { made result ≡ there (slice_index_or (roster self.now) side.number None) Ok }
     {
-        self.slots[side.number() as usize]
+        self.slots[u8::from(side) as usize].ok_or(Fault::UnknownSide)
     }
 
     // Does what a command says, and tells what a call comes to.
-    pub fn play(&mut self, command: Command) -> Played
+    pub fn play(&mut self, command: Option<Command>) -> Option<Played>
         ensures shows { told result ≡ outcome (roster self.old) (said command) }
         ensures leaves { roster self.new ≡ after (roster self.old) (said command) }
     {
-        match command {
-            Command::Nothing => Played::Nothing,
+        match command? {
             Command::Side(side, preferences) => {
                 self.set(side, preferences);
-                Played::Nothing
+                None
             }
-            Command::Call(caller, called) => match self.call(caller, called) {
-                Ok(cipher) => Played::Chose(caller, called, cipher),
-                Err(fault) => Played::Refused(caller, called, fault),
-            },
+            Command::Call(call) => Some(Played {
+                call,
+                answer: self.call(call),
+            }),
         }
     }
 }

@@ -5,8 +5,6 @@ use Rattle.words.specs.Listed.{listed}
 use Rattle.script.specs.Lines.{ciphers, more_ciphers}
 use Rattle.script.proofs.reader.read_ciphers.Given as goal
 
-abbrev pub invariant-loop-rest : goal.invariant-loop-rest
-invariant-loop-rest l = more_ciphers (most_ciphers - length (listed l.preferences)) (listed l.preferences) l.rest ≡ ciphers l.text
-
-abbrev pub decreases-loop-rest : goal.decreases-loop-rest
-decreases-loop-rest l = length l.rest
+abbrev pub invariant-loop-found : goal.invariant-loop-found
+invariant-loop-found l =
+    more_ciphers (most_ciphers - length (listed l.preferences)) (listed l.preferences) l.found-iterator ≡ ciphers l.fn.words

@@ -1,13 +1,12 @@
-use Rattle.std.proofs.Common.{◌∙◌}
-use Rattle.script.specs.Text.{stops}
-use Rattle.script.proofs.Cutting as cutting
+use Rattle.std.proofs.Common.{length, ap, ◌∙◌, rules, tests}
+use Rattle.std.specs.Option.{unwrap_or}
+use Rattle.std.proofs.lemmas.Iterator.{YieldsList-from_slice}
+use Rattle.std.proofs.lemmas.Iterator.Search.{position_from_yields_List}
+use Rattle.script.proofs.Cutting.{split}
 use Rattle.script.proofs.text.cut.Goals as goal
 
 pub returns : goal.returns
-returns c =
-    let at = c.length_until.ensures in
-    let cut_at = c.split_at.ensures in
-    record {
-      front = cut_at.front ∙ cutting.front (stops c.args.stop) _ _ at.within at.passes at.stopped;
-      back = cut_at.back ∙ cutting.back (stops c.args.stop) _ _ at.within at.passes at.stopped;
-    }
+returns g c stop h =
+    let text = c.args.text.now in
+    let found = position_from_yields_List stop _ _ c.position-stopped.result c.position-stopped.ensures.ran (YieldsList-from_slice text (cc)) (λ x b q k. let each = h.each x.now b in search (rules, tests)) in
+    split stop _ _ _ _ (c.unwrap_or.ensures ∙ ap (λ o. unwrap_or o (length text)) found) c.split_at.ensures.front c.split_at.ensures.back
