@@ -8,6 +8,7 @@ use std::marker::Model;
 use words::cipher::Cipher;
 
 // Bytes in hex.
+#[tactic(auto, using(crate::proofs::Hexes::encoded))]
 pub fn hex(heap: Global, bytes: &[u8]) -> Result<String, AllocError>
     ensures { IfOk result (λ s. string_bytes s ≡ hex_digits bytes.now) }
 {
@@ -27,7 +28,16 @@ impl Model for Lines {
 
     ghost Value = { List ℕ };
 
-    ghost view = { λ lines. string_bytes lines.text };
+    ghost view = { λ l. string_bytes l.text };
+}
+
+// The whole text.
+impl From<Lines> for String {
+    ghost from_gives = { λ lines r. string_bytes r ≡ lines };
+
+    fn from(lines: Lines) -> String {
+        lines.text
+    }
 }
 
 impl Lines {
@@ -36,13 +46,6 @@ impl Lines {
         ensures { result ≡ string_bytes text }
     {
         Lines { heap, text }
-    }
-
-    // The whole text.
-    pub fn into_text(self) -> String
-        ensures { string_bytes result ≡ self }
-    {
-        self.text
     }
 
     // One line more.
@@ -84,6 +87,7 @@ impl Lines {
     }
 
     // A line for each cipher.
+    #[tactic(auto, unfolding(crate::specs::Lines::numbers_on))]
     pub fn ciphers(self, indent: &str, name: &str, ciphers: &[Cipher]) -> Result<Lines, AllocError>
         ensures { IfOk result (λ l. l ≡ numbers_on self indent.now name.now (numbers ciphers.now)) }
     {

@@ -71,6 +71,7 @@ impl Lines {
     }
 
     // Public keys that stand one after another.
+    #[tactic(auto, using(crate::proofs::Texts::keys_apart))]
     fn keys(self, halves: &[u8]) -> Result<Lines, AllocError>
         ensures { IfOk result (λ l. l ≡ keys_on self (length halves.now / 32) halves.now) }
     {
