@@ -1,8 +1,9 @@
 -- Bytes in hex as the library's definitions give them. Assumes nothing.
-use Rattle.std.proofs.Common.{◌≡◌, ℕ, zero, suc, ◌+◌, ◌*◌, ◌/◌, ◌%◌, ◌<◌, Bool, true, false, ◌&&◌, ◌==◌, inl, inr, List, [], ◌∷◌, ◌++◌, length, slice_index, Option, Some, None, Result, Ok, Err, sym, refl, ap, ap₂, ◌∙◌, append_assoc, append-nil, arith}
+use Rattle.std.proofs.Common.{◌≡◌, ℕ, suc, ◌+◌, ◌*◌, ◌/◌, ◌%◌, ◌<◌, false, inl, inr, List, [], ◌∷◌, ◌++◌, length, slice_index, Option, Some, None, Result, Ok, Err, sym, refl, ap, ap₂, ◌∙◌, append_assoc, append-nil, arith}
 use Rattle.std.specs.Prelude.{MatchResult}
 use Rattle.std.specs.Fmt.{digit_glyph}
-use Rattle.std.proofs.lemmas.Bool.{and_parts, cases_eq, cases_lt, eqb-true}
+use Rattle.std.proofs.lemmas.Bool.{cases_eq}
+use Rattle.std.proofs.lemmas.List.FromFn.{get_or-map-range_with_len}
 use Rattle.hex.specs.declared.error.FromHexError.{FromHexError}
 use Rattle.hex.specs.Hex.{IsBytes, lower_digits, encode_lower, encode_with, hex_digit_value, digit_or_error, ◌>>=◌, decode_pairs, decode_sized}
 use Rattle.hex.specs.declared.error.FromHexError.TheVariants.{OddLength}
@@ -10,28 +11,11 @@ use Rattle.hex.proofs.Pairs.{decode_sized-pairs}
 use Rattle.parts.specs.Lines.{hex_digits}
 use Rattle.parts.specs.Hex.{digit_value, needs, unhexed}
 
--- whether the table has this digit at its place
-abbrev in_place : ℕ → Bool
-in_place n = slice_index lower_digits n == digit_glyph false n
-
-abbrev all_in_place : ℕ → Bool
-all_in_place zero = true
-all_in_place (suc n) = in_place n && all_in_place n
-
-place : (n k : ℕ) → all_in_place n ≡ true → k < n → in_place k ≡ true
-place zero k h less = absurd (omega arith)
-place (suc n) k h less =
-    let parts = and_parts (in_place n) (all_in_place n) h in
-    elim (cases_lt k n) [
-      | inl below ↦ place n k parts.1 below
-      | inr top ↦
-          let e : k ≡ n = omega arith in
-          rw e parts.0
-    ]
-
+-- the table has each digit at its place
 glyph : (n : ℕ) → n < 16 → slice_index lower_digits n ≡ digit_glyph false n
-glyph n h = eqb-true (slice_index lower_digits n) (digit_glyph false n) (place 16 n refl h)
+glyph n h = get_or-map-range_with_len (digit_glyph false) 0 16 n n 0 h (omega arith)
 
+-- bytes are encoded in digits of both halves
 pub encoded : (bs : List ℕ) → IsBytes bs → encode_lower bs ≡ hex_digits bs
 unfolding encode_with
 encoded [] fit = refl

@@ -107,7 +107,7 @@ fn describe_as<'a, S: Shown<'a>>(lines: Lines, bytes: &'a [u8]) -> Result<Lines,
 pub fn describe(lines: Lines, bytes: &[u8]) -> Result<Lines, NotShown>
     ensures { IsShown (described lines bytes.now) result }
 {
-    let Some((first, _)) = bytes.split_first() else {
+    let Some(first) = bytes.first() else {
         return Err(NotShown::Faulty(Fault::BadLength));
     };
     match Kind::of(*first) {
