@@ -95,9 +95,8 @@ fn settings_lines(lines: Lines, bytes: &[u8]) -> Result<Lines, NotShown> {
     let settings = read_settings(bytes)?;
     let preferences = settings.preferences()?;
     settings.fits(&half_of_key(&settings))?;
-    Ok(lines
-        .title("", "settings")?
-        .settings(&settings, &preferences)?)
+    let title = lines.title("", "settings")?;
+    Ok(title.settings(&settings, &preferences)?)
 }
 
 // The public half of the own key, by the stand-in.
