@@ -1,4 +1,5 @@
 pub mod Lines
 pub mod Parts
 pub mod Described
+pub mod Shown
 pub mod Hex

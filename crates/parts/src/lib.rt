@@ -2,6 +2,7 @@
 #![tactic(auto)]
 
 pub mod described;
+pub mod failure;
 pub mod lines;
 pub mod shown;
 pub mod unhex;

@@ -1,104 +1,100 @@
 // Lines of text, each with a name and a value.
-ghost use Rattle.std.specs.Prelude.{◌≡◌, ◌<◌, false, IfOk, string_bytes};
-ghost use Rattle.std.specs.Fmt.{digit_glyph};
+ghost use Rattle.std.specs.Prelude.{◌≡◌, IfOk, string_bytes};
 ghost use Rattle.words.specs.Ciphers.{numbers};
 ghost use Rattle.parts.specs.Lines.{hex_digits, line_on, number_on, bytes_on, title_on, numbers_on};
 
 use std::alloc::{AllocError, Global};
+use std::marker::Model;
 use words::cipher::Cipher;
 
-// A digit in hex.
-fn hex_digit(value: u8) -> char
-    requires { value < 16 }
-    ensures { result ≡ digit_glyph false value }
-{
-    if value < 10 {
-        char::from(b'0' + value)
-    } else {
-        char::from(b'a' + (value - 10))
-    }
-}
-
 // Bytes in hex.
+#[tactic(auto, using(crate::proofs::Hexes::encoded))]
 pub fn hex(heap: Global, bytes: &[u8]) -> Result<String, AllocError>
     ensures { IfOk result (λ s. string_bytes s ≡ hex_digits bytes.now) }
 {
-    let mut text = String::new(heap);
-    for byte in bytes {
-        text.push(hex_digit(*byte / 16))?;
-        text.push(hex_digit(*byte % 16))?;
+    hex::encode(heap, bytes)
+}
+
+// A text that gets line after line, and where memory for it is had from.
+#[derive(Drop)]
+pub struct Lines {
+    heap: Global,
+    text: String,
+}
+
+// Seen as its text.
+impl Model for Lines {
+    ghost use Rattle.std.specs.Prelude.{ℕ, List, string_bytes};
+
+    ghost Value = { List ℕ };
+
+    ghost view = { λ l. string_bytes l.text };
+}
+
+// The whole text.
+impl From<Lines> for String {
+    ghost from_gives = { λ lines r. string_bytes r ≡ lines };
+
+    fn from(lines: Lines) -> String {
+        lines.text
     }
-    Ok(text)
 }
 
-// One line more.
-pub fn with_line(
-    mut before: String,
-    indent: &str,
-    name: &str,
-    value: &str,
-) -> Result<String, AllocError>
-    ensures { IfOk result (λ s. string_bytes s ≡ line_on (string_bytes before) indent.now name.now value.now) }
-{
-    before.push_str(indent)?;
-    before.push_str(name)?;
-    before.push_str(": ")?;
-    before.push_str(value)?;
-    before.push_str("\n")?;
-    Ok(before)
-}
-
-// A line with a number.
-pub fn with_number(
-    heap: Global,
-    before: String,
-    indent: &str,
-    name: &str,
-    number: u64,
-) -> Result<String, AllocError>
-    ensures { IfOk result (λ s. string_bytes s ≡ number_on (string_bytes before) indent.now name.now number) }
-{
-    let value = number.to_string(heap)?;
-    with_line(before, indent, name, value.as_str())
-}
-
-// A line with bytes in hex.
-pub fn with_bytes(
-    heap: Global,
-    before: String,
-    indent: &str,
-    name: &str,
-    bytes: &[u8],
-) -> Result<String, AllocError>
-    ensures { IfOk result (λ s. string_bytes s ≡ bytes_on (string_bytes before) indent.now name.now bytes.now) }
-{
-    let value = hex(heap, bytes)?;
-    with_line(before, indent, name, value.as_str())
-}
-
-// A title.
-pub fn with_title(mut before: String, indent: &str, title: &str) -> Result<String, AllocError>
-    ensures { IfOk result (λ s. string_bytes s ≡ title_on (string_bytes before) indent.now title.now) }
-{
-    before.push_str(indent)?;
-    before.push_str(title)?;
-    before.push_str("\n")?;
-    Ok(before)
-}
-
-// A line for each cipher.
-pub fn with_ciphers(
-    heap: Global,
-    before: String,
-    indent: &str,
-    name: &str,
-    ciphers: &[Cipher],
-) -> Result<String, AllocError>
-    ensures { IfOk result (λ s. string_bytes s ≡ numbers_on (string_bytes before) indent.now name.now (numbers ciphers.now)) }
-{
-    let mut text = before;
-    for cipher in ciphers {
-        text = with_number(heap, text, indent, name, u64::from(cipher.number()))?;
+impl Lines {
+    // Lines behind a text.
+    pub fn behind(heap: Global, text: String) -> Lines
+        ensures { result ≡ string_bytes text }
+    {
+        Lines { heap, text }
     }
-    Ok(text)
+
+    // One line more.
+    pub fn line(mut self, indent: &str, name: &str, value: &str) -> Result<Lines, AllocError>
+        ensures { IfOk result (λ l. l ≡ line_on self indent.now name.now value.now) }
+    {
+        self.text.push_str(indent)?;
+        self.text.push_str(name)?;
+        self.text.push_str(": ")?;
+        self.text.push_str(value)?;
+        self.text.push_str("\n")?;
+        Ok(self)
+    }
+
+    // A line with a number.
+    pub fn number(self, indent: &str, name: &str, number: u64) -> Result<Lines, AllocError>
+        ensures { IfOk result (λ l. l ≡ number_on self indent.now name.now number) }
+    {
+        let value = number.to_string(self.heap)?;
+        self.line(indent, name, value.as_str())
+    }
+
+    // A line with bytes in hex.
+    pub fn bytes(self, indent: &str, name: &str, bytes: &[u8]) -> Result<Lines, AllocError>
+        ensures { IfOk result (λ l. l ≡ bytes_on self indent.now name.now bytes.now) }
+    {
+        let value = hex(self.heap, bytes)?;
+        self.line(indent, name, value.as_str())
+    }
+
+    // A title.
+    pub fn title(mut self, indent: &str, title: &str) -> Result<Lines, AllocError>
+        ensures { IfOk result (λ l. l ≡ title_on self indent.now title.now) }
+    {
+        self.text.push_str(indent)?;
+        self.text.push_str(title)?;
+        self.text.push_str("\n")?;
+        Ok(self)
+    }
+
+    // A line for each cipher.
+    #[tactic(auto, unfolding(crate::specs::Lines::numbers_on))]
+    pub fn ciphers(self, indent: &str, name: &str, ciphers: &[Cipher]) -> Result<Lines, AllocError>
+        ensures { IfOk result (λ l. l ≡ numbers_on self indent.now name.now (numbers ciphers.now)) }
+    {
+        let mut lines = self;
+        for cipher in ciphers {
+            lines = lines.number(indent, name, u64::from(cipher.number()))?;
+        }
+        Ok(lines)
+    }
 }

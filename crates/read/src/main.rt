@@ -4,15 +4,15 @@
 use fixed_bytes::fixed::PublicKey;
 use fixed_bytes::secret::{Secret, SecretKey};
 use parts::described::describe;
-use parts::lines::with_title;
-use parts::shown::with_settings;
+use parts::failure::NotShown;
+use parts::lines::Lines;
 use parts::unhex::unhex;
 use primitives::signatures::Signatures;
 use record_formats::settings::{Settings, read_settings};
-use std::alloc::{AllocError, Global};
+use stand_in::StandIn;
+use std::alloc::Global;
 use std::io::{BufRead, BufReader};
 use std::{env, fs, io};
-use words::fault::Fault;
 use words::registry::Kind;
 
 // Whether a key in settings is that of its side is told by the stand-in.
@@ -37,11 +37,11 @@ fn run(rt: &HostRuntime) -> io::Result<()> {
 }
 
 // Reads a file of bytes, or standard input where the name is `-`.
-fn read_named(rt: &HostRuntime, name: &String) -> io::Result<()> {
-    if name.as_str() == "-" {
+fn read_named(rt: &HostRuntime, name: &str) -> io::Result<()> {
+    if name == "-" {
         return read_lines(rt);
     }
-    let bytes = fs::read(rt, name.as_str())?;
+    let bytes = fs::read(rt, name)?;
     print!(rt; "{name}: ")?;
     show(rt, bytes.as_slice())
 }
@@ -65,51 +65,41 @@ fn read_lines(rt: &HostRuntime) -> io::Result<()> {
 }
 
 fn is_passed_over(line: &[u8]) -> bool {
-    match line.first() {
-        Some(first) => *first == b'#',
-        None => true,
-    }
+    line.first().is_none_or(|first| *first == b'#')
 }
 
 // Prints the parts of some bytes, or the number and the cause of their first fault.
 fn show(rt: &HostRuntime, bytes: &[u8]) -> io::Result<()> {
-    match text(rt.alloc(), bytes)? {
-        Ok(lines) => rt.print(lines),
-        Err(fault) => {
+    match lines_of(rt.alloc(), bytes) {
+        Ok(lines) => rt.print(String::from(lines)),
+        Err(NotShown::Faulty(fault)) => {
             let number = fault.number();
             println!(rt; "fault {number}: {fault}")
         }
+        Err(NotShown::NoMemory(error)) => Err(error.into()),
     }
 }
 
-// The text of settings, if they begin as such, or else that of a word or a record.
-fn text(heap: Global, bytes: &[u8]) -> Result<Result<String, Fault>, AllocError> {
-    if bytes.first().copied() == Some(Kind::Settings.byte()) {
-        settings_text(heap, bytes)
+// The lines of settings, if the bytes begin as such, or else those of a word or a record.
+fn lines_of(heap: Global, bytes: &[u8]) -> Result<Lines, NotShown> {
+    let lines = Lines::behind(heap, String::new(heap));
+    if bytes.first().copied() == Some(u8::from(Kind::Settings)) {
+        settings_lines(lines, bytes)
     } else {
-        describe(heap, String::new(heap), bytes)
+        describe(lines, bytes)
     }
 }
 
-// The text of settings, without the own key.
-fn settings_text(heap: Global, bytes: &[u8]) -> Result<Result<String, Fault>, AllocError> {
-    let settings = match read_settings(bytes) {
-        Ok(settings) => settings,
-        Err(fault) => return Ok(Err(fault)),
-    };
-    let preferences = match settings.preferences() {
-        Ok(preferences) => preferences,
-        Err(fault) => return Ok(Err(fault)),
-    };
-    if let Err(fault) = settings.fits(&half_of_key(&settings)) {
-        return Ok(Err(fault));
-    }
-    let title = with_title(String::new(heap), "", "settings")?;
-    Ok(Ok(with_settings(heap, title, &settings, &preferences)?))
+// The lines of settings, without the own key.
+fn settings_lines(lines: Lines, bytes: &[u8]) -> Result<Lines, NotShown> {
+    let settings = read_settings(bytes)?;
+    let preferences = settings.preferences()?;
+    settings.fits(&half_of_key(&settings))?;
+    let title = lines.title("", "settings")?;
+    Ok(title.settings(&settings, &preferences)?)
 }
 
 // The public half of the own key, by the stand-in.
 fn half_of_key(settings: &Settings<'_>) -> PublicKey {
-    let mut key = *settings.key;
-    <stand_in::StandIn as Signatures>::public_half(&SecretKey(Secret::taken_from(&mut key)))
+    <StandIn as Signatures>::public_half(&SecretKey(Secret::from(*settings.key)))
 }
