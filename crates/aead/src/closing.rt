@@ -46,7 +46,8 @@ fn turn_content<K: CipherKey>(key: &K, n: u64, bytes: &mut [u8]) -> Result<(), R
     Ok(turn(key.secret(), FIRST_BLOCK, &nonce_of(n), bytes)?)
 }
 
-// The content, which stands before room for its tag, is encrypted in its place and the tag written behind it.
+// The content, which stands before room for its tag, is encrypted in its place and the tag written behind it. Key, number and
+// head stay apart: number and head are other ones at each call, so a struct would only be made to be taken apart.
 pub fn close<K: CipherKey>(key: &K, n: u64, head: &[u8], bytes: &mut [u8]) -> Result<(), Refused>
     ensures { Closing (K.CipherKey.secret key.now) n head.now bytes.old bytes.new (is_ok result) }
 {

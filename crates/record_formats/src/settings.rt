@@ -19,7 +19,8 @@ pub const MOST_SIDES: usize = 4096;
 
 const KEY_LENGTH: usize = 32;
 
-// A side's number, its preferences behind their count, the public halves of all sides, and its identity key.
+// A side's number, its preferences behind their count, the public halves of all sides, and its identity key. The halves stay
+// one after another, as they stand in the bytes: nothing is copied, and they are seen as the format has them.
 #[derive(Clone, Copy)]
 pub struct Settings<'a> {
     pub own: u16,
@@ -64,6 +65,7 @@ fn is_there(number: u16, sides: usize) -> bool
 }
 
 // The own number, and what follows it.
+// Each answer is taken apart by `let .. else`: a rule of the project for readers.
 fn read_own(bytes: &[u8]) -> Result<(u16, &[u8]), Fault>
     ensures { with numbered result ≡ own_number bytes.now }
 {
@@ -79,6 +81,7 @@ fn read_own(bytes: &[u8]) -> Result<(u16, &[u8]), Fault>
 }
 
 // The halves of all sides and the key of the one with a number.
+// Each answer is taken apart by `let .. else`: a rule of the project for readers.
 fn read_keys(own: u16, bytes: &[u8]) -> Result<(&[u8], &[u8; 32]), Fault>
     ensures { with two_parts result ≡ settings_keys own bytes.now }
 {
@@ -99,6 +102,7 @@ fn read_keys(own: u16, bytes: &[u8]) -> Result<(&[u8], &[u8; 32]), Fault>
 }
 
 // Whole settings, or their first fault. Whether the key is that of its side, `fits` says.
+// Each answer is taken apart by `let .. else`: a rule of the project for readers.
 pub fn read_settings(bytes: &[u8]) -> Result<Settings<'_>, Fault>
     ensures { with as_settings result ≡ read_settings bytes.now }
 {
@@ -145,9 +149,7 @@ impl Settings<'_> {
     pub fn fits(&self, half: &PublicKey) -> Result<(), Fault>
         ensures { Fits (as_settings self.now) half.now.0.bytes result }
     {
-        let Some(own) = self.public_half(self.own) else {
-            return Err(Fault::SettingsOtherKey);
-        };
+        let own = self.public_half(self.own).ok_or(Fault::SettingsOtherKey)?;
         if !same_bytes(own.0.bytes(), half.0.bytes()) {
             return Err(Fault::SettingsOtherKey);
         }

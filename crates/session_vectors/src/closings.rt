@@ -48,7 +48,7 @@ pub const CLOSINGS: [ClosingVector; 3] = [
 ];
 
 impl ClosingVector {
-    // The content closed, with its number before it in the tag.
+    // The content closed, with its number before it in the tag; None where it is refused, which `?` can't hand on.
     pub fn closed(&self, heap: Global) -> Result<Option<Vec<u8>>, AllocError> {
         let mut bytes = self.content.to_vec(heap)?;
         bytes.extend_from_slice(&[0; 16])?;

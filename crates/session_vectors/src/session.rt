@@ -188,7 +188,8 @@ impl SessionVector {
         <StandIn as Signatures>::verify(&half, self.signed_part(), &self.signature())
     }
 
-    // The end: the reply and the caller's signature, closed behind the kind and the length.
+    // The end: the reply and the caller's signature, closed behind the kind and the length. What is refused is None in an answer
+    // that may want memory, which `?` can't hand on, hence `let .. else`.
     pub fn end(&self, heap: Global) -> Result<Option<Vec<u8>>, AllocError> {
         let Ok(length) = u16::try_from(self.reply.len().saturating_add(80)) else {
             return Ok(None);

@@ -88,7 +88,8 @@ fn first_rounds(s: State, w: &[u32; 16]) -> State
     s
 }
 
-// A later quarter of the rounds, each word made from the last sixteen just before its round; and the words.
+// A later quarter of the rounds, each word made from the last sixteen just before its round; and the words. They are written
+// out, since a loop would count places in a ring of sixteen by hand.
 fn more_rounds<const FROM: usize>(s: State, w: &[u32; 16]) -> (State, [u32; 16])
     requires { FROM ≤ 48 }
     ensures state { result.0 ≡ rounds s (sums (take 16 (drop FROM constants)) (slid_by 16 w.now)) }

@@ -60,7 +60,8 @@ pub enum Fault {
 }
 
 impl Fault {
-    // The number by which the refusal is counted.
+    // The number by which the refusal is counted. No From: several faults have one number, so this says something of a fault
+    // and turns it into nothing.
     pub fn number(self) -> u8
         ensures { result ≡ fault_number self }
     {

@@ -10,6 +10,7 @@ pub enum NotWritten {
     BadLength,
 }
 
+// The library has two errors for want of memory, of a new and of a growing Vec, and From is written for each.
 impl From<AllocError> for NotWritten {
     ghost from_gives = { λ _ r. r ≡ NoMemory };
 

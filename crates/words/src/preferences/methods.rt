@@ -48,9 +48,7 @@ impl Preferences {
         ensures value { made result ≡ taken (numbers ciphers.now) }
         ensures exact { is_ok result ≡ proper (numbers ciphers.now) }
     {
-        let Some((first, rest)) = ciphers.split_first() else {
-            return Err(Fault::NoCipher);
-        };
+        let (first, rest) = ciphers.split_first().ok_or(Fault::NoCipher)?;
         if !Preferences::can_hold(ciphers.len()) {
             return Err(Fault::TooManyCiphers);
         }
