@@ -137,15 +137,3 @@ lengthened block number out total size e f =
     let eight : length number ≡ 8 = ap length e ∙ length_number _ in
     let nothing : drop (56 + length number) block ≡ [] = drop_all (56 + length number) block (omega arith) in
     f ∙ ap (λ x. take 56 block ++ (number ++ x)) nothing ∙ ap (λ x. take 56 block ++ x) (append-nil number ∙ same)
-
--- the bytes of a state, word by word
-pub output_is : (s : State) (a b c d e f g h : List ℕ)
-    → a ≡ word_bytes s.a → b ≡ word_bytes s.b → c ≡ word_bytes s.c → d ≡ word_bytes s.d
-    → e ≡ word_bytes s.e → f ≡ word_bytes s.f → g ≡ word_bytes s.g → h ≡ word_bytes s.h
-    → get_or a 0 0 ∷ get_or a 1 0 ∷ get_or a 2 0 ∷ get_or a 3 0 ∷ get_or b 0 0 ∷ get_or b 1 0 ∷ get_or b 2 0 ∷ get_or b 3 0
-    ∷ get_or c 0 0 ∷ get_or c 1 0 ∷ get_or c 2 0 ∷ get_or c 3 0 ∷ get_or d 0 0 ∷ get_or d 1 0 ∷ get_or d 2 0 ∷ get_or d 3 0
-    ∷ get_or e 0 0 ∷ get_or e 1 0 ∷ get_or e 2 0 ∷ get_or e 3 0 ∷ get_or f 0 0 ∷ get_or f 1 0 ∷ get_or f 2 0 ∷ get_or f 3 0
-    ∷ get_or g 0 0 ∷ get_or g 1 0 ∷ get_or g 2 0 ∷ get_or g 3 0 ∷ get_or h 0 0 ∷ get_or h 1 0 ∷ get_or h 2 0 ∷ get_or h 3 0 ∷ []
-    ≡ state_bytes s
-unfolding state_bytes
-output_is s a b c d e f g h ea eb ec ed ee ef eg eh = rw (ea, eb, ec, ed, ee, ef, eg, eh) refl

@@ -12,11 +12,10 @@ fn main(rt: HostRuntime) -> io::Result<()> {
 
 // Plays the scripts that are named by argument, or else the one on standard input.
 fn run(rt: &HostRuntime) -> io::Result<()> {
-    let mut names = env::args(rt)?.skip(1);
-    let Some(first) = names.next() else {
+    let mut names = env::args(rt)?.skip(1).peekable();
+    if names.peek().is_none() {
         return play(rt, rt.stdin());
-    };
-    play_named(rt, first.as_str())?;
+    }
     for name in names {
         play_named(rt, name.as_str())?;
     }

@@ -25,13 +25,12 @@ fn main(rt: HostRuntime) -> io::Result<()> {
 // Reads the files that are named by argument, `-` for standard input, or else standard input alone.
 fn run(rt: &HostRuntime) -> io::Result<()> {
     eprintln!(rt; "{STAND_IN_WARNING}")?;
-    let mut names = env::args(rt)?.skip(1);
-    let Some(first) = names.next() else {
+    let mut names = env::args(rt)?.skip(1).peekable();
+    if names.peek().is_none() {
         return read_lines(rt);
-    };
-    read_named(rt, &first)?;
+    }
     for name in names {
-        read_named(rt, &name)?;
+        read_named(rt, name.as_str())?;
     }
     Ok(())
 }
