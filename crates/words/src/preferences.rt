@@ -8,8 +8,8 @@ use crate::cipher::Cipher;
 mod methods;
 
 // 1 to 16 ciphers, none twice: the first `count` of the array.
-// An array and a count, since lists are copied by value and need no heap; the clauses see it through `listed`,
-// since a Model of a type that is copied would have to give back the cells behind the count too.
+// An array and a count are a rule of the project: lists are copied by value and need no heap. No Model: it would show the list
+// without these facts, by which writers know how long a hello is, and Copy would want the cells behind the count back.
 #[derive(Clone, Copy)]
 pub struct Preferences {
     ciphers: [Cipher; 16],
