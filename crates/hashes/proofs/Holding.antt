@@ -40,12 +40,6 @@ holds_block s buffer block h size e =
 pub holds_both : (h : Hasher) (m xs ys bytes : List ℕ) → bytes ≡ xs ++ ys → Holds h ((m ++ xs) ++ ys) → Holds h (m ++ bytes)
 holds_both h m xs ys bytes e held = subst (Holds h) (append_assoc m xs ys ∙ ap (λ b. m ++ b) (sym e)) held
 
--- how many bytes the buffer has of the message, and what the message's length is
-length_held : (h : Hasher) (m : List ℕ) (held : Holds h m) → length m ≡ held.count * 64 + h.total % 64
-length_held h m held =
-    let part : length (take (h.total % 64) h.buffer) ≡ h.total % 64 = length-take-le (h.total % 64) h.buffer (omega (arith, held.sized)) in
-    ap length held.split ∙ length-append held.whole (take (h.total % 64) h.buffer) ∙ omega (arith, held.in_blocks)
-
 -- bytes that leave room in the buffer
 pub holds_buffered : (h : Hasher) (m bytes buffer : List ℕ) (total : ℕ)
     → h.total % 64 + length bytes < 64
