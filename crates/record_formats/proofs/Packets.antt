@@ -12,7 +12,7 @@ use Rattle.formats.specs.Encoding.{tag_length}
 use Rattle.formats.specs.Laws.{OnlyMalformed}
 use Rattle.formats.specs.Reading.{must, part, number}
 use Rattle.formats.specs.Whole.{Bytes}
-use Rattle.formats.proofs.Stages.{ok_same, must_true, part_at, part_next, part_short, by_must, by_part, by_kind}
+use Rattle.formats.proofs.Stages.{ok_same, must_true, part_at, by_must, by_part, by_kind}
 use Rattle.formats.proofs.Digits.{number_is, number_fits}
 use Rattle.formats.proofs.Malformed.{taken, at_must, at_part, at_kind, at_number}
 use Rattle.formats.proofs.Words.{got_malformed}
@@ -31,14 +31,6 @@ behind_session s bs = number 8 bs (behind_number s)
 
 abbrev behind_kind : List ℕ → Result (Record (List ℕ)) Fault
 behind_kind bs = part 4 bs behind_session
-
--- cut in its number
-pub cut_in_number : (bs left0 left1 : List ℕ) (b : ℕ) → bs ≡ b ∷ left0 → b ≡ kind_record → left1 ≡ drop 4 left0 → length left1 + 4 ≡ length left0 → length left1 < 8 → Err BadLength ≡ read_record bs
-cut_in_number bs left0 left1 b e is f long short = sym (
-    ap read_record e
-    ∙ must_true (eqb b kind_record) UnknownKind (behind_kind left0) (eq-eqb b kind_record is)
-    ∙ part_next 4 left0 left1 behind_session f long
-    ∙ part_short 8 left1 (λ p rest. behind_number (take 4 left0) (value p) rest) short)
 
 pub record RecordRead (bs : List ℕ) (r : Record (List ℕ)) : Type 0 where
   pub is : bs ≡ record_bytes r
