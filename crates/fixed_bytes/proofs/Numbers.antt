@@ -9,16 +9,6 @@ pub length_big_endian : (k n : ℕ) → length (big_endian k n) ≡ k
 length_big_endian zero n = refl
 length_big_endian (suc k) n = ap suc (length_big_endian k n)
 
--- numbers as the library writes them
-last_byte : (n : ℕ) → n % 256 ≡ n / 256 ^ 0 % 256
-last_byte n = omega arith
-
-pub two_written : (n : ℕ) (bytes : List ℕ) → bytes ≡ (n / 256 % 256) ∷ (n % 256) ∷ [] → bytes ≡ big_endian 2 n
-two_written n bytes e = e ∙ ap (λ b. (n / 256 % 256) ∷ b ∷ []) (last_byte n)
-
-pub eight_written : (n : ℕ) (bytes : List ℕ) → bytes ≡ (n / 72057594037927936 % 256) ∷ (n / 281474976710656 % 256) ∷ (n / 1099511627776 % 256) ∷ (n / 4294967296 % 256) ∷ (n / 16777216 % 256) ∷ (n / 65536 % 256) ∷ (n / 256 % 256) ∷ (n % 256) ∷ [] → bytes ≡ big_endian 8 n
-eight_written n bytes e = e ∙ ap (λ b. (n / 72057594037927936 % 256) ∷ (n / 281474976710656 % 256) ∷ (n / 1099511627776 % 256) ∷ (n / 4294967296 % 256) ∷ (n / 16777216 % 256) ∷ (n / 65536 % 256) ∷ (n / 256 % 256) ∷ b ∷ []) (last_byte n)
-
 pub some_power : (k : ℕ) → 0 < 256 ^ k
 some_power zero = lit< tt
 some_power (suc k) = omega (arith, some_power k, pow-succ' 256 k)

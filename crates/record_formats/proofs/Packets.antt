@@ -1,5 +1,5 @@
 -- Records: what is read was written so, what is written is read back, and nothing cut or longer is taken. Assumes nothing.
-use Rattle.std.proofs.Common.{◌≡◌, ℕ, zero, suc, ◌+◌, ◌-◌, ◌/◌, ◌%◌, ◌^◌, ◌<◌, ◌≤◌, eqb, leb, List, [], ◌∷◌, ◌++◌, length, take, drop, Ok, Err, Result, sym, refl, ap, ◌∙◌, subst, ap₂, append_assoc, mod-lt, arith, lit<, length-append}
+use Rattle.std.proofs.Common.{◌≡◌, ℕ, zero, suc, ◌+◌, ◌-◌, ◌/◌, ◌%◌, ◌^◌, ◌<◌, ◌≤◌, eqb, leb, List, [], ◌∷◌, ◌++◌, length, take, drop, Ok, Err, Result, sym, refl, ap, ◌∙◌, subst, ap₂, append_assoc, arith, lit<, length-append}
 use Rattle.std.proofs.ByRecursion.{All-append, All-take, All-drop}
 use Rattle.std.proofs.lemmas.List.{append-nil, take-append-drop, length-take-le, length-drop, nil_from_length, drop_at, drop-drop}
 use Rattle.std.proofs.lemmas.Bool.{eqb-true, eq-eqb, and_parts, and_from, leb-true, le-leb}
@@ -13,7 +13,7 @@ use Rattle.formats.specs.Laws.{OnlyMalformed}
 use Rattle.formats.specs.Reading.{must, part, number}
 use Rattle.formats.specs.Whole.{Bytes}
 use Rattle.formats.proofs.Stages.{ok_same, must_true, part_at, by_must, by_part, by_kind}
-use Rattle.formats.proofs.Digits.{number_is, number_fits}
+use Rattle.formats.proofs.Digits.{number_is, number_fits, digits}
 use Rattle.formats.proofs.Malformed.{taken, at_must, at_part, at_kind, at_number}
 use Rattle.formats.proofs.Words.{got_malformed}
 use Rattle.record_formats.specs.Records.{Record, record_bytes, sendable, read_record, WholeRecord}
@@ -94,13 +94,6 @@ all_malformed bs =
     (at_must (eqb (len + tag_length) (length bs)) BadLength (Ok (record { session = s; number = n; closed = bs })) refl (taken (record { session = s; number = n; closed = bs })))))))
 
 -- a record consists of bytes
-small : (n : ℕ) → n % 256 < 256
-small n = mod-lt n (lit< tt)
-
-digits : (k n : ℕ) → Bytes (big_endian k n)
-digits zero n = tt
-digits (suc k) n = (small (n / 256 ^ k), digits k n)
-
 record_all : (r : Record (List ℕ)) → WholeRecord r → Bytes (record_bytes r)
 record_all r w =
     let len = length r.closed - tag_length in (
