@@ -1,11 +1,11 @@
 -- What fits, what has its right tag, and what is lent behind the first bytes of a word. Assumes nothing.
-use Rattle.std.proofs.Common.{◌≡◌, ℕ, ◌+◌, ◌-◌, ◌<◌, ◌≤◌, Bool, true, false, ◌&&◌, leb, List, [], ◌++◌, length, take, drop, Decides, sym, refl, ap, ◌∙◌, subst, append-nil, arith, length-drop, length-take-le, take_all, drop_at}
+use Rattle.std.proofs.Common.{◌≡◌, ℕ, ◌-◌, ◌<◌, ◌≤◌, Bool, true, false, ◌&&◌, leb, List, [], ◌++◌, length, take, drop, sym, refl, ap, ◌∙◌, subst, append-nil, arith, length-drop, length-take-le, take_all, drop_at}
 use mathlib.Core.Bool.{and-eq-true_iff, false≢true}
 use Rattle.std.proofs.lemmas.List.{drop_all}
-use Rattle.std.proofs.lemmas.Bool.{leb-true, le-leb, lt-leb}
+use Rattle.std.proofs.lemmas.Bool.{leb-true, lt-leb}
 use borrow.Rule.Slice.PartMut.{mid_of, post_of, put_mid, take_put}
 use Rattle.ciphers.specs.ChaCha20.{suffices, Turning}
-use Rattle.aead.specs.Closing.{nonce_of, tag, content, last_bytes, fits, Tagged, Opening}
+use Rattle.aead.specs.Closing.{nonce_of, fits, Tagged, Opening}
 use Rattle.aead.proofs.Closed.{fits_is, opening_done}
 use Rattle.aead.specs.Behind.{Behind}
 

@@ -2,7 +2,7 @@
 use Rattle.std.proofs.Common.{◌≡◌, ℕ, ◌+◌, ◌-◌, ◌*◌, ◌/◌, ◌%◌, ◌<◌, ◌≤◌, ◌≢◌, min, ◌⊎◌, List, length, get_or, set, ap, ◌∙◌, subst, ap₂, inl, inr, arith, length-set, get_or-set_other, get_or-set_same}
 use lib.Bits.{bit_xor}
 use Rattle.std.proofs.lemmas.Bool.{cases_lt}
-use Rattle.ciphers.specs.ChaCha20.{initial, double_rounds, sum_byte, block_byte, stream_byte, Turned}
+use Rattle.ciphers.specs.ChaCha20.{initial, block_byte, stream_byte, Turned}
 use Rattle.ciphers.specs.Parts.{PartTurned}
 
 -- a part more, turned by what the stream has next

@@ -1,5 +1,5 @@
 -- Numbers written in bytes, high byte first, and read back. Assumes nothing.
-use Rattle.std.proofs.Common.{◌≡◌, ℕ, zero, suc, ◌+◌, ◌*◌, ◌/◌, ◌%◌, ◌^◌, ◌<◌, List, [], ◌∷◌, length, get_or, sym, refl, ap, ◌∙◌, ap₂, mod-eq_of_lt, arith, lit<}
+use Rattle.std.proofs.Common.{◌≡◌, ℕ, zero, suc, ◌+◌, ◌*◌, ◌/◌, ◌%◌, ◌^◌, ◌<◌, List, length, get_or, sym, refl, ap, ◌∙◌, ap₂, mod-eq_of_lt, arith, lit<}
 use native.Mathlib.Nat.{pow-succ'}
 use lib.Arith.{mod-mul}
 use Rattle.std.proofs.lemmas.List.FromFn.{fill_by_all}

@@ -1,8 +1,8 @@
 -- The blocks that a key is made into, and what is taken behind them. Assumes nothing.
-use Rattle.std.proofs.Common.{◌≡◌, ℕ, zero, ◌+◌, ◌-◌, ◌<◌, ◌≤◌, ltb, List, [], ◌++◌, ◌≢◌, map, length, get_or, drop, set, replicate, sym, refl, ap, ◌∙◌, subst, ⊎_elim, append_assoc, arith, length-append, length-set, get_or-set_other, get_or-set_same, below_more, ext_get_or}
+use Rattle.std.proofs.Common.{◌≡◌, ℕ, zero, ◌+◌, ◌-◌, ◌<◌, ◌≤◌, ltb, List, [], ◌++◌, length, drop, replicate, sym, refl, ap, ◌∙◌, subst, ⊎_elim, arith, length-append}
 use lib.Bits.{bit_xor}
 use lib.ListN.{length-replicate, length-map}
-use Rattle.std.proofs.lemmas.List.{append-nil, drop-replicate, get_or-map}
+use Rattle.std.proofs.lemmas.List.{append-nil, drop-replicate}
 use Rattle.std.proofs.lemmas.Bool.{cases_Bool, cond-true, cond-false, ltb-true, ltb-false, lt-ltb, le-ltb}
 use Rattle.hashes.specs.declared.hasher.Hasher.{Hasher}
 use Rattle.hashes.specs.Hmac.{filled_up, key_block, masked, inner_pad, outer_pad, hmac_sha256}

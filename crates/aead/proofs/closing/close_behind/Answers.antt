@@ -1,4 +1,4 @@
-use Rattle.std.proofs.Common.{is_ok, refl}
+use Rattle.std.proofs.Common.{is_ok}
 use Rattle.aead.specs.Closing.{Closing}
 use Rattle.aead.proofs.Closings.{behind}
 use Rattle.aead.proofs.closing.close_behind.Goals as goal

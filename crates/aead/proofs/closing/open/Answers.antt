@@ -1,5 +1,5 @@
 use Rattle.std.proofs.Common.{◌≡◌, ◌-◌, length, is_ok, refl, rules, arith}
-use Rattle.aead.proofs.Closings.{opened, fits_room}
+use Rattle.aead.proofs.Closings.{opened}
 use Rattle.aead.proofs.closing.open.Goals as goal
 
 pub returns : goal.returns

@@ -1,4 +1,4 @@
-use Rattle.std.proofs.Common.{map, get_or}
+use Rattle.std.proofs.Common.{map}
 use Rattle.ciphers.proofs.Parts.{blocks_of_stream}
 use Rattle.ciphers.proofs.chacha20.turn_next.Goals as goal
 
