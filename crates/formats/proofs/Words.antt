@@ -1,5 +1,5 @@
 -- All three words: read one way, no cut and nothing longer taken, and what is signed. Assumes nothing.
-use Rattle.std.proofs.Common.{◌≡◌, ℕ, ◌+◌, ◌-◌, ◌*◌, ◌/◌, ◌%◌, ◌^◌, ◌<◌, cond, eqb, List, [], ◌∷◌, ◌++◌, length, get_or, take, drop, replicate, Some, None, Ok, Err, Option, Result, sym, refl, ap, ◌∙◌, subst, ap₂, append_assoc, arith, lit<, length-append}
+use Rattle.std.proofs.Common.{◌≡◌, ℕ, ◌+◌, ◌-◌, ◌*◌, ◌^◌, ◌<◌, cond, eqb, List, [], ◌∷◌, ◌++◌, length, get_or, take, drop, replicate, Some, None, Ok, Err, Option, Result, sym, refl, ap, ◌∙◌, subst, ap₂, append_assoc, arith, lit<, length-append}
 use Rattle.std.proofs.ByRecursion.{All-append, All-take, All-from_get_or}
 use Rattle.std.proofs.lemmas.List.{append-nil, take-append-drop, length-drop, nil_from_length, take_at, drop_at, get_or-replicate}
 use Rattle.fixed_bytes.specs.Numbers.{big_endian}

@@ -1,8 +1,7 @@
 -- Sealing and opening, as lists. Assumes nothing.
 use Rattle.std.proofs.Common.{◌≡◌, ℕ, ◌<◌, ◌≤◌, Bool, true, false, List, [], ◌++◌, length, take, drop, Ok, Err, Decides, Result, sym, refl, ap, ◌∙◌, subst, arith, length-drop, take-append-drop, take_at, drop_at}
 use mathlib.Core.Bool.{false≢true}
-use borrow.Rule.Slice.PartMut.{post_of}
-use Rattle.aead.specs.Closing.{closed, content, fits, Tagged, Closing, Opening}
+use Rattle.aead.specs.Closing.{closed, content, fits, Tagged, Opening}
 use Rattle.aead.specs.Behind.{Behind}
 use Rattle.aead.proofs.Closed.{closed_opens, only_closed_opens, closed_apart}
 use Rattle.aead.proofs.Closings.{short, fits_room}

@@ -1,12 +1,12 @@
 -- Records: what is read was written so, what is written is read back, and nothing cut or longer is taken. Assumes nothing.
-use Rattle.std.proofs.Common.{◌≡◌, ℕ, zero, suc, ◌+◌, ◌-◌, ◌/◌, ◌%◌, ◌^◌, ◌<◌, ◌≤◌, eqb, leb, List, [], ◌∷◌, ◌++◌, length, take, drop, Ok, Err, Result, sym, refl, ap, ◌∙◌, subst, ap₂, append_assoc, arith, lit<, length-append}
+use Rattle.std.proofs.Common.{◌≡◌, ℕ, ◌+◌, ◌-◌, ◌<◌, ◌≤◌, eqb, leb, List, [], ◌∷◌, ◌++◌, length, take, drop, Ok, Result, sym, refl, ap, ◌∙◌, subst, ap₂, append_assoc, arith, lit<, length-append}
 use Rattle.std.proofs.ByRecursion.{All-append, All-take, All-drop}
 use Rattle.std.proofs.lemmas.List.{append-nil, take-append-drop, length-take-le, length-drop, nil_from_length, drop_at, drop-drop}
 use Rattle.std.proofs.lemmas.Bool.{eqb-true, eq-eqb, and_parts, and_from, leb-true, le-leb}
 use Rattle.fixed_bytes.specs.Numbers.{big_endian, value}
 use Rattle.fixed_bytes.proofs.Numbers.{value_back}
 use Rattle.words.specs.declared.fault.Fault.{Fault}
-use Rattle.words.specs.declared.fault.Fault.TheVariants.{BadLength, UnknownKind}
+use Rattle.words.specs.declared.fault.Fault.TheVariants.{BadLength}
 use Rattle.words.specs.Registry.{kind_record}
 use Rattle.formats.specs.Encoding.{tag_length}
 use Rattle.formats.specs.Laws.{OnlyMalformed}

@@ -2,7 +2,7 @@ use Rattle.std.proofs.Common.{◌≡◌, Err, sym, refl, ap, ◌∙◌, subst}
 use Rattle.std.proofs.lemmas.Result.{err_from_is_err_and}
 use Rattle.primitives.specs.Seals.{front_half, Unsealing}
 use Rattle.primitives.specs.declared.seals.NotOpened.TheVariants.{Shut}
-use Rattle.primitives.proofs.Sealings.{no_half, not_one, opening_key_is, opening_refused}
+use Rattle.primitives.proofs.Sealings.{no_half, opening_key_is, opening_refused}
 use Rattle.primitives.proofs.seals.open_seal.Goals as goal
 
 -- a string that is shorter than a half has nothing to open
