@@ -1,7 +1,8 @@
 -- Sealing and opening, as lists. Assumes nothing.
 use Rattle.std.proofs.Common.{◌≡◌, ℕ, ◌<◌, ◌≤◌, Bool, true, false, List, [], ◌++◌, length, take, drop, Ok, Err, Decides, Result, sym, refl, ap, ◌∙◌, subst, arith, length-drop, take-append-drop, take_at, drop_at}
 use mathlib.Core.Bool.{false≢true}
-use Rattle.aead.specs.Closing.{closed, content, fits, Tagged, Opening}
+use borrow.Rule.Slice.PartMut.{post_of}
+use Rattle.aead.specs.Closing.{closed, content, fits, Tagged, Closing, Opening}
 use Rattle.aead.specs.Behind.{Behind}
 use Rattle.aead.proofs.Closed.{closed_opens, only_closed_opens, closed_apart}
 use Rattle.aead.proofs.Closings.{short, fits_room}
@@ -27,8 +28,15 @@ pub not_one : (a b one : List ℕ) → a ≡ b → Decides false (a ≡ one) →
 not_one a b one e d f = false≢true (d.1 (e ∙ f))
 
 module _ (g : GroupModel) where
+  -- the key that was made from what was computed is the one that is meant
+  pub sealing_key_is : (x drawn theirs common own key : List ℕ) → x ≡ drawn → common ≡ g.raise x theirs → own ≡ half g x → key ≡ seal_key common theirs own → key ≡ sealing_key g drawn theirs
+  sealing_key_is x drawn theirs common own key d e f k = k ∙ ap (λ z. seal_key z theirs own) e ∙ ap (seal_key (g.raise x theirs) theirs) f ∙ ap (λ z. sealing_key g z theirs) d
+
   pub opening_key_is : (key own front common mine made : List ℕ) → own ≡ front → common ≡ g.raise key own → mine ≡ half g key → made ≡ seal_key common mine own → made ≡ opening_key g key front
   opening_key_is key own front common mine made o e f k = k ∙ ap (λ z. seal_key z mine own) e ∙ ap (λ z. seal_key (g.raise key own) z own) f ∙ ap (opening_key g key) o
+
+  pub sealing_done : (x theirs before between key own : List ℕ) → key ≡ sealing_key g x theirs → own ≡ half g x → Behind 32 (λ b a. Closing key 0 [] b a true) before between → own ++ post_of 0 32 between ≡ sealed g x theirs (seal_content before)
+  sealing_done x theirs before between key own k o (front, (f, e)) = ap (λ l. l ++ drop 32 between) o ∙ ap (λ l. half g x ++ l) e ∙ ap (λ z. half g x ++ closed z 0 [] (seal_content before)) k
 
   pub opening_refused : (key before after made : List ℕ) → made ≡ opening_key g key (front_half before) → Behind 32 (λ b a. Opening made 0 [] b a false) before after → (SealFits g key before → ⊥) × (after ≡ before)
   opening_refused key before after made k (front, (never, same)) = ((λ t. never (subst (λ z. Tagged z [] (behind_half before)) (sym k) t)), whole_same after before front same)
