@@ -54,9 +54,6 @@ module _ (before : List ℕ) (end : ℕ) (room : 16 ≤ length before) (e : end 
   pub fits_is : (b : Bool) → suffices 1 (length (mid_of 0 (end - 0) before)) ≡ b → fits before ≡ b
   fits_is b s = ap (λ x. x && suffices 1 (length before - 16)) (le-leb 16 (length before) room) ∙ ap (suffices 1) (sym content_length) ∙ s
 
-  pub unchanged : (mid : List ℕ) → mid ≡ mid_of 0 (end - 0) before → mid ++ post_of 0 (end - 0) before ≡ before
-  unchanged mid same = ap (λ l. l ++ post_of 0 (end - 0) before) same ∙ take-append-drop (end - 0) before
-
   module _ (key : List ℕ) (n : ℕ) (nonce : List ℕ) (own : nonce ≡ nonce_of n) (T : List ℕ) (turned : Turned key 1 nonce (mid_of 0 (end - 0) before) T) where
     pub turned_end : length T ≡ end - 0
     turned_end = turned.len ∙ content_length ∙ sym same_end

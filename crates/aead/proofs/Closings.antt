@@ -1,11 +1,11 @@
 -- What fits, what has its right tag, and what is lent behind the first bytes of a word. Assumes nothing.
-use Rattle.std.proofs.Common.{◌≡◌, ℕ, ◌+◌, ◌-◌, ◌<◌, ◌≤◌, Bool, true, false, ◌&&◌, leb, List, [], ◌++◌, length, take, drop, Decides, sym, refl, ap, ◌∙◌, subst, append-nil, arith, length-drop, length-take-le, take_all, drop_at}
+use Rattle.std.proofs.Common.{◌≡◌, ℕ, ◌-◌, ◌<◌, ◌≤◌, Bool, true, false, ◌&&◌, leb, List, [], ◌++◌, length, take, drop, sym, refl, ap, ◌∙◌, subst, append-nil, arith, length-drop, length-take-le, take_all, drop_at}
 use mathlib.Core.Bool.{and-eq-true_iff, false≢true}
 use Rattle.std.proofs.lemmas.List.{drop_all}
-use Rattle.std.proofs.lemmas.Bool.{leb-true, le-leb, lt-leb}
+use Rattle.std.proofs.lemmas.Bool.{leb-true, lt-leb}
 use borrow.Rule.Slice.PartMut.{mid_of, post_of, put_mid, take_put}
 use Rattle.ciphers.specs.ChaCha20.{suffices, Turning}
-use Rattle.aead.specs.Closing.{nonce_of, tag, content, last_bytes, fits, Tagged, Opening}
+use Rattle.aead.specs.Closing.{nonce_of, fits, Tagged, Opening}
 use Rattle.aead.proofs.Closed.{fits_is, opening_done}
 use Rattle.aead.specs.Behind.{Behind}
 
@@ -22,29 +22,8 @@ behind Change start word rest room change =
 pub short : (bs : List ℕ) → length bs < 16 → fits bs ≡ false
 short bs h = ap (λ x. x && suffices 1 (length bs - 16)) (lt-leb 16 (length bs) h)
 
--- nothing stands behind the end
-pub nothing_behind : (start : ℕ) (word : List ℕ) → length word < start → fits (drop start word) ≡ false
-nothing_behind start word h = let long = length-drop start word in short (drop start word) (omega arith)
-
 pub fits_room : (bs : List ℕ) → fits bs ≡ true → 16 ≤ length bs
 fits_room bs f = leb-true 16 (length bs) ((and-eq-true_iff (leb 16 (length bs)) (suffices 1 (length bs - 16))).0 f).0
-
--- the two parts of something that was split before its last 16 bytes, and the tag that the second was compared with
-module _ (bs inside last : List ℕ) (p : inside ≡ content bs) (q : last ≡ last_bytes bs) (n : length inside + 16 ≡ length bs) where
-  inside_length : length inside ≡ length bs - 16
-  inside_length = omega arith
-
-  split_fits : (b : Bool) → suffices 1 (length inside) ≡ b → fits bs ≡ b
-  split_fits b s = ap (λ x. x && suffices 1 (length bs - 16)) (le-leb 16 (length bs) (omega arith)) ∙ ap (suffices 1) (sym inside_length) ∙ s
-
-  pub tagged_decided : (key head t : List ℕ) (r : Bool) → suffices 1 (length inside) ≡ true → t ≡ tag key head inside → Decides r (t ≡ last) → Decides r (Tagged key head bs)
-  tagged_decided key head t r s e (same, is) = (
-    (λ h. (split_fits true s, sym q ∙ sym (same h) ∙ e ∙ ap (tag key head) p)),
-    λ tagged. is (e ∙ ap (tag key head) p ∙ sym tagged.1 ∙ sym q),
-  )
-
-  pub never_tagged : (key head : List ℕ) → suffices 1 (length inside) ≡ false → Tagged key head bs → ⊥
-  never_tagged key head s tagged = false≢true (sym (split_fits false s) ∙ tagged.0)
 
 -- what has its right tag is decrypted, since the keystream suffices for it
 pub opened : (key : List ℕ) (n : ℕ) (head bytes T : List ℕ) (end : ℕ) (b : Bool) → Tagged key head bytes → end ≡ length bytes - 16 → Turning key 1 (nonce_of n) (mid_of 0 (end - 0) bytes) T b → Opening key n head bytes (T ++ post_of 0 (end - 0) bytes) b

@@ -2,7 +2,7 @@
 use Rattle.std.proofs.Common.{◌≡◌, ℕ, ◌+◌, ◌-◌, ◌*◌, ◌/◌, ◌%◌, ◌<◌, ◌≤◌, ◌≢◌, min, ◌⊎◌, List, length, get_or, set, ap, ◌∙◌, subst, ap₂, inl, inr, arith, length-set, get_or-set_other, get_or-set_same}
 use lib.Bits.{bit_xor}
 use Rattle.std.proofs.lemmas.Bool.{cases_lt}
-use Rattle.ciphers.specs.ChaCha20.{initial, double_rounds, sum_byte, block_byte, stream_byte, Turned}
+use Rattle.ciphers.specs.ChaCha20.{initial, block_byte, stream_byte, Turned}
 use Rattle.ciphers.specs.Parts.{PartTurned}
 
 -- a part more, turned by what the stream has next
@@ -24,18 +24,6 @@ part_more f g before s t at a b next P Q = record {
 -- blocks that begin one after the other, as one stream
 abbrev pub in_turn : (ℕ → List ℕ) → ℕ → ℕ
 in_turn start p = block_byte (start (p / 64)) (p % 64)
-
--- one block more of them
-pub block_more : (start : ℕ → List ℕ) (last stream before s t : List ℕ) (at n : ℕ) → last ≡ double_rounds 10 (start n) → ((j : ℕ) → j < 64 → get_or stream j 0 ≡ sum_byte last (start n) j) → PartTurned (in_turn start) before s at (min (length before) (at + 64 * n)) → PartTurned (λ j. get_or stream j 0) s t (at + 64 * n) (min (length s) (at + 64 * n + 64)) → PartTurned (in_turn start) before t at (min (length before) (at + 64 * (n + 1)))
-block_more start last stream before s t at n e bytes P Q =
-    let more : 64 * n + 64 ≡ 64 * (n + 1) = omega arith in
-    subst (λ m. PartTurned (in_turn start) before t at (min (length before) (at + m))) more (part_more (in_turn start) (λ j. get_or stream j 0) before s t at (64 * n) 64 here P Q)
-  where
-    here : (j : ℕ) → j < 64 → get_or stream j 0 ≡ in_turn start (64 * n + j)
-    here j h =
-        let block : n ≡ (64 * n + j) / 64 = omega arith in
-        let place : j ≡ (64 * n + j) % 64 = omega arith in
-        bytes j h ∙ ap (λ a. sum_byte a (start n) j) e ∙ ap₂ (λ b p. block_byte (start b) p) block place
 
 -- blocks that begin with the counter's states are the keystream's
 pub blocks_of_stream : (key : List ℕ) (counter : ℕ) (nonce : List ℕ) (start : ℕ → List ℕ) (before after : List ℕ) (at many : ℕ) → ((n : ℕ) → n < many → start n ≡ initial key (counter + n) nonce) → PartTurned (in_turn start) before after at (min (length before) (at + 64 * many)) → PartTurned (stream_byte key counter nonce) before after at (min (length before) (at + 64 * many))

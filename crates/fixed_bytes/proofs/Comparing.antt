@@ -1,6 +1,6 @@
 -- Comparing strings byte by byte, without an early exit. Assumes nothing.
 use Rattle.std.proofs.Common.{◌≡◌, ℕ, eqb, List, [], ◌∷◌, length, Decides, sym, refl, ap, ◌∙◌, ap₂, arith}
-use lib.Bits.{bit_or, bit_xor, or_add_and, and_le_l, and_comm, xor_assoc, xor_self, xor_zero_l, xor_zero_r}
+use lib.Bits.{bit_or, bit_xor, or_add_and, xor_add_and, and_le_l, and_le_r, xor_self}
 use Rattle.std.proofs.lemmas.Bool.{eqb-true, eq-eqb}
 
 -- the bits in which two strings differ somewhere, joined to others
@@ -9,17 +9,12 @@ difference d [] ys = d
 difference d (x ∷ xs) [] = d
 difference d (x ∷ xs) (y ∷ ys) = difference (bit_or d (bit_xor x y)) xs ys
 
--- where the rest is empty, nothing more is joined
-pub at_end : (d : ℕ) (xs ys : List ℕ) → length xs ≡ 0 → difference d xs ys ≡ d
-at_end d [] ys e = refl
-at_end d (x ∷ xs) ys e = absurd (omega (arith, e))
-
 -- two numbers joined are 0 only if each is
 or_zero : (a b : ℕ) → bit_or a b ≡ 0 → (a ≡ 0) × (b ≡ 0)
-or_zero a b e = let p = or_add_and a b in let q = and_le_l a b in let r = and_le_l b a in let s = and_comm a b in (omega arith, omega arith)
+or_zero a b e = (omega (arith, or_add_and a b, and_le_l a b, and_le_r a b), omega (arith, or_add_and a b, and_le_l a b, and_le_r a b))
 
 xor_same : (x y : ℕ) → bit_xor x y ≡ 0 → x ≡ y
-xor_same x y e = sym (xor_zero_r x) ∙ ap (bit_xor x) (sym (xor_self y)) ∙ sym (xor_assoc x y y) ∙ ap (λ z. bit_xor z y) e ∙ xor_zero_l y
+xor_same x y e = omega (arith, xor_add_and x y, and_le_l x y, and_le_r x y)
 
 -- no bit is set only if none was and the strings are the same
 no_difference : (d : ℕ) (a b : List ℕ) → length a ≡ length b → difference d a b ≡ 0 → (d ≡ 0) × (a ≡ b)

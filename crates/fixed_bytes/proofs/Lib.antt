@@ -1,4 +1,3 @@
 pub mod Comparing
-pub mod Wiping
 pub mod Numbers
 pub mod Sameness

@@ -1,22 +1,13 @@
 -- Numbers written in bytes, high byte first, and read back. Assumes nothing.
-use Rattle.std.proofs.Common.{◌≡◌, ℕ, zero, suc, ◌+◌, ◌*◌, ◌/◌, ◌%◌, ◌^◌, ◌<◌, List, [], ◌∷◌, length, get_or, sym, refl, ap, ◌∙◌, ap₂, mod-eq_of_lt, arith, lit<}
+use Rattle.std.proofs.Common.{◌≡◌, ℕ, zero, suc, ◌+◌, ◌*◌, ◌/◌, ◌%◌, ◌^◌, ◌<◌, List, length, get_or, sym, refl, ap, ◌∙◌, ap₂, mod-eq_of_lt, arith, lit<}
 use native.Mathlib.Nat.{pow-succ'}
 use lib.Arith.{mod-mul}
+use Rattle.std.proofs.lemmas.List.FromFn.{fill_by_all}
 use Rattle.fixed_bytes.specs.Numbers.{big_endian, value}
 
 pub length_big_endian : (k n : ℕ) → length (big_endian k n) ≡ k
 length_big_endian zero n = refl
 length_big_endian (suc k) n = ap suc (length_big_endian k n)
-
--- numbers as the library writes them
-last_byte : (n : ℕ) → n % 256 ≡ n / 256 ^ 0 % 256
-last_byte n = omega arith
-
-pub two_written : (n : ℕ) (bytes : List ℕ) → bytes ≡ (n / 256 % 256) ∷ (n % 256) ∷ [] → bytes ≡ big_endian 2 n
-two_written n bytes e = e ∙ ap (λ b. (n / 256 % 256) ∷ b ∷ []) (last_byte n)
-
-pub eight_written : (n : ℕ) (bytes : List ℕ) → bytes ≡ (n / 72057594037927936 % 256) ∷ (n / 281474976710656 % 256) ∷ (n / 1099511627776 % 256) ∷ (n / 4294967296 % 256) ∷ (n / 16777216 % 256) ∷ (n / 65536 % 256) ∷ (n / 256 % 256) ∷ (n % 256) ∷ [] → bytes ≡ big_endian 8 n
-eight_written n bytes e = e ∙ ap (λ b. (n / 72057594037927936 % 256) ∷ (n / 281474976710656 % 256) ∷ (n / 1099511627776 % 256) ∷ (n / 4294967296 % 256) ∷ (n / 16777216 % 256) ∷ (n / 65536 % 256) ∷ (n / 256 % 256) ∷ b ∷ []) (last_byte n)
 
 pub some_power : (k : ℕ) → 0 < 256 ^ k
 some_power zero = lit< tt
@@ -35,13 +26,4 @@ value_back k n h = value_rest k n ∙ mod-eq_of_lt h
 
 -- the number of eight bytes, written out
 pub value_of_eight : (l : List ℕ) → length l ≡ 8 → get_or l 0 0 * 72057594037927936 + get_or l 1 0 * 281474976710656 + get_or l 2 0 * 1099511627776 + get_or l 3 0 * 4294967296 + get_or l 4 0 * 16777216 + get_or l 5 0 * 65536 + get_or l 6 0 * 256 + get_or l 7 0 ≡ value l
-value_of_eight [] e = absurd (omega (arith, e))
-value_of_eight (a ∷ []) e = absurd (omega (arith, e))
-value_of_eight (a ∷ b ∷ []) e = absurd (omega (arith, e))
-value_of_eight (a ∷ b ∷ c ∷ []) e = absurd (omega (arith, e))
-value_of_eight (a ∷ b ∷ c ∷ d ∷ []) e = absurd (omega (arith, e))
-value_of_eight (a ∷ b ∷ c ∷ d ∷ f ∷ []) e = absurd (omega (arith, e))
-value_of_eight (a ∷ b ∷ c ∷ d ∷ f ∷ g ∷ []) e = absurd (omega (arith, e))
-value_of_eight (a ∷ b ∷ c ∷ d ∷ f ∷ g ∷ h ∷ []) e = absurd (omega (arith, e))
-value_of_eight (a ∷ b ∷ c ∷ d ∷ f ∷ g ∷ h ∷ i ∷ []) e = omega arith
-value_of_eight (a ∷ b ∷ c ∷ d ∷ f ∷ g ∷ h ∷ i ∷ j ∷ l) e = absurd (omega (arith, e))
+value_of_eight l e = omega (arith, ap value (fill_by_all (λ k. get_or l k 0) l 8 0 e (λ k h. refl)))

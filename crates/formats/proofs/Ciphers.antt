@@ -1,6 +1,6 @@
 -- How a list of ciphers is read byte by byte. Assumes nothing.
-use Rattle.std.proofs.Common.{◌≡◌, ℕ, zero, suc, ◌+◌, ◌-◌, ◌<◌, ◌≤◌, Bool, true, false, cond, not, eqb, leb, List, [], ◌∷◌, ◌++◌, length, take, drop, Ok, Err, Result, sym, refl, ap, ◌∙◌, ap₂, append_assoc, arith}
-use Rattle.std.proofs.lemmas.List.{nil_from_length, append-nil, take-append-drop, length-take-le}
+use Rattle.std.proofs.Common.{◌≡◌, ℕ, zero, suc, ◌+◌, ◌-◌, ◌<◌, ◌≤◌, Bool, true, false, cond, not, eqb, leb, List, [], ◌∷◌, ◌++◌, length, take, drop, Ok, Err, Result, sym, refl, ap, ◌∙◌, ap₂, append_assoc, arith, length-append}
+use Rattle.std.proofs.lemmas.List.{nil_from_length, append-nil, take-append-drop, length-take-le, take_at, drop_at}
 use Rattle.std.proofs.lemmas.Bool.{both_ways, lt-ltb, not-true, not_from_false, ne_eqb, eqb-false, leb-true, le-leb}
 use Rattle.words.specs.declared.cipher.Cipher.{Cipher}
 use Rattle.words.specs.declared.fault.Fault.{Fault}
@@ -8,9 +8,9 @@ use Rattle.words.specs.declared.fault.Fault.TheVariants.{BadLength, NoCipher, To
 use Rattle.words.specs.declared.preferences.Preferences.{Preferences}
 use Rattle.words.specs.Choice.{holds, distinct, proper, most_ciphers}
 use Rattle.words.specs.Listed.{listed, Added}
-use Rattle.formats.specs.Reading.{must, more_ciphers, listing}
+use Rattle.formats.specs.Reading.{alone, must, more_ciphers, listing}
 use Rattle.words.proofs.Listing.{distinct_again, distinct_push, proper_parts, proper_from}
-use Rattle.formats.proofs.Stages.{err_ok, ok_same, must_true, by_must, by_byte}
+use Rattle.formats.proofs.Stages.{err_ok, ok_same, not_alone, must_true, by_must, by_byte}
 
 -- one cipher after another
 one_more : (twice : Fault) (n : ℕ) (cs : List ℕ) (c : ℕ) (rest : List ℕ) → more_ciphers twice (suc n) cs (c ∷ rest) ≡ must (not (holds cs c)) twice (more_ciphers twice n (cs ++ c ∷ []) rest)
@@ -100,6 +100,25 @@ listing_is many twice bs cs rest e =
   where
     not_zero : (n : ℕ) → eqb n 0 ≡ false → 0 < n
     not_zero n e = omega (arith, eqb-false n 0 e)
+
+-- a listing that is read alone stands at the front, and what follows it behind its count and its ciphers
+module _ (many twice : Fault) (bs cs : List ℕ) (n : ℕ) (read : Ok cs ≡ alone (listing many twice bs)) (counted : n ≡ length cs) where
+  found : (rest : List ℕ) × (bs ≡ length cs ∷ (cs ++ rest)) × (listing many twice bs ≡ Ok (cs, rest))
+  found = let p = not_alone (listing many twice bs) cs read in (p.0, (listing_is many twice bs cs p.0 p.1).is, p.1)
+
+  one : length (length cs ∷ cs) ≡ 1 + n
+  one = omega (arith, counted)
+
+  pub listing_fits : 1 + n ≤ length bs
+  listing_fits = let p = found in omega (arith, ap length p.1, length-append cs p.0)
+
+  pub listing_front : take (1 + n) bs ≡ length cs ∷ cs
+  listing_front = let p = found in ap (take (1 + n)) p.1 ∙ take_at (length cs ∷ cs) p.0 (1 + n) one
+
+  pub listing_then : (behind : List ℕ) → behind ≡ drop (1 + n) bs → listing many twice bs ≡ Ok (cs, behind)
+  listing_then behind is =
+      let p = found in
+      p.2 ∙ ap (λ l. Ok (cs, l)) (sym (drop_at (length cs ∷ cs) p.0 (1 + n) one) ∙ ap (drop (1 + n)) (sym p.1) ∙ sym is)
 
 -- and what is written is read back
 pub more_back : (twice : Fault) (cs ds rest : List ℕ) → distinct (cs ++ ds) ≡ true → more_ciphers twice (length ds) cs (ds ++ rest) ≡ Ok (cs ++ ds, rest)

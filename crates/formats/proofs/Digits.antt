@@ -1,5 +1,5 @@
 -- Bytes read as a number, and written back. Assumes nothing.
-use Rattle.std.proofs.Common.{◌≡◌, ℕ, zero, suc, ◌+◌, ◌*◌, ◌/◌, ◌%◌, ◌^◌, ◌<◌, ◌≤◌, List, [], ◌∷◌, ◌++◌, length, take, drop, sym, refl, ap, ◌∙◌, subst, ap₂, mod-eq_of_lt, mul_assoc, lit<}
+use Rattle.std.proofs.Common.{◌≡◌, ℕ, zero, suc, ◌+◌, ◌*◌, ◌/◌, ◌%◌, ◌^◌, ◌<◌, ◌≤◌, List, [], ◌∷◌, ◌++◌, length, take, drop, sym, refl, ap, ◌∙◌, subst, ap₂, mod-eq_of_lt, mod-lt, mul_assoc, lit<}
 use native.Mathlib.Nat.{pow-succ', mul-add-div_right, mul-add-mod_self_right}
 use lib.Arith.{digits_lt, digits_div}
 use Rattle.std.proofs.ByRecursion.{All-take}
@@ -28,6 +28,11 @@ written_back (b ∷ bs) all =
     ap₂ (λ c cs. c ∷ cs)
     (ap (λ x. x % 256) (digits_div b (value_fits bs all.1)) ∙ mod-eq_of_lt all.0)
     (above_width (length bs) b (value bs) ∙ written_back bs all.1)
+
+-- what is written are bytes
+pub digits : (k n : ℕ) → Bytes (big_endian k n)
+digits zero n = tt
+digits (suc k) n = (mod-lt (n / 256 ^ k) (lit< tt), digits k n)
 
 -- a number at the front of some bytes
 module _ (n : ℕ) (bs : List ℕ) (within : n ≤ length bs) (all : Bytes bs) where

@@ -14,7 +14,7 @@ use Rattle.formats.specs.Encoding.{hello_bytes, hello_length}
 use Rattle.formats.specs.Decoding.{names, keys, hello_front, read_hello}
 use Rattle.formats.specs.Whole.{Bytes, WholeHello}
 use Rattle.formats.proofs.Stages.{ok_same, not_alone, fault_alone, must_true, must_false, part_at, part_whole, part_short, then_ok, by_then, by_part, by_kind}
-use Rattle.formats.proofs.Ciphers.{ListingRead, listing_is, listing_back}
+use Rattle.formats.proofs.Ciphers.{ListingRead, listing_is, listing_then, listing_back}
 use Rattle.formats.proofs.Digits.{number_is, number_fits}
 use Rattle.fixed_bytes.proofs.Numbers.{value_back}
 
@@ -165,20 +165,10 @@ made a b cs k = Ok (record { caller = a; called = b; offer = cs; nonce = k.0; ha
 
 -- the code's way through a hello: names, ciphers, and what is left for nonce and half
 module _ (bs rest : List ℕ) (a b : ℕ) (cs : List ℕ) (n : ℕ) (named : Ok (a, b, rest) ≡ names bs) (offered : Ok cs ≡ alone (listing TooManyCiphers CipherTwice rest)) (counted : n ≡ length cs) where
-  pub list_fits : 1 + n ≤ length rest
-  list_fits =
-      let p = not_alone (listing TooManyCiphers CipherTwice rest) cs offered in
-      let L = listing_is TooManyCiphers CipherTwice rest cs p.0 p.1 in
-      omega (arith, ap length L.is, length-append cs p.0)
-
   behind_list : (behind : List ℕ) → behind ≡ drop (1 + n) rest → hello_front bs ≡ and_then (keys behind) (made a b cs)
   unfolding made
   behind_list behind is =
-      let p = not_alone (listing TooManyCiphers CipherTwice rest) cs offered in
-      let L = listing_is TooManyCiphers CipherTwice rest cs p.0 p.1 in
-      let one : length (length cs ∷ cs) ≡ 1 + n = omega (arith, counted) in
-      let same : p.0 ≡ behind = sym (drop_at (length cs ∷ cs) p.0 (1 + n) one) ∙ ap (drop (1 + n)) (sym L.is) ∙ sym is in
-      then_ok (names bs) _ (a, b, rest) (sym named) ∙ then_ok (listing TooManyCiphers CipherTwice rest) _ (cs, p.0) p.1 ∙ ap (λ r. and_then (keys r) (made a b cs)) same
+      then_ok (names bs) _ (a, b, rest) (sym named) ∙ then_ok (listing TooManyCiphers CipherTwice rest) _ (cs, behind) (listing_then TooManyCiphers CipherTwice rest cs n offered counted behind is)
 
   pub nonce_cut : (behind : List ℕ) → behind ≡ drop (1 + n) rest → length behind < 32 → Err BadLength ≡ alone (hello_front bs)
   nonce_cut behind is short = sym (ap alone (behind_list behind is ∙ ap (λ r. and_then r (made a b cs)) (no_nonce behind short)))

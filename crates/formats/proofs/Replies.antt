@@ -14,7 +14,7 @@ use Rattle.formats.specs.Reading.{with, alone, and_then, must, part, number, don
 use Rattle.formats.specs.Encoding.{hello_bytes, hello_length, answer_bytes, reply_bytes, end_bytes, signature_length}
 use Rattle.formats.specs.Decoding.{hello_front, answer, read_reply, hello_part, lockable, read_end}
 use Rattle.formats.specs.Whole.{Bytes, WholeHello, WholeBody, WholeReply, WholeEnd}
-use Rattle.formats.proofs.Stages.{ok_same, not_alone, fault_alone, part_at, part_next, part_short, must_true, then_ok, by_then, by_must, by_byte, by_part, by_kind, by_done}
+use Rattle.formats.proofs.Stages.{ok_same, not_alone, fault_alone, part_at, must_true, then_ok, by_then, by_must, by_byte, by_part, by_kind, by_done}
 use Rattle.formats.proofs.Digits.{number_is, number_fits}
 use Rattle.fixed_bytes.proofs.Numbers.{value_back}
 use Rattle.formats.proofs.Hellos.{both_bytes, hello_read, hello_front_back}
@@ -59,23 +59,6 @@ from_seal h b n bs = part 32 bs (from_box h b n)
 
 abbrev pub from_nonce : Hello (List ℕ) → ℕ → List ℕ → Result (Reply (List ℕ)) Fault
 from_nonce h b bs = part 32 bs (from_seal h b)
-
-module _ (h : Hello (List ℕ)) (bs after-choice after-nonce : List ℕ) (b : ℕ) (e : bs ≡ b ∷ after-choice) (f : after-nonce ≡ drop 32 after-choice) (long : length after-nonce + 32 ≡ length after-choice) where
-  to_seal : answer h bs ≡ from_seal h b (take 32 after-choice) after-nonce
-  to_seal = ap (answer h) e ∙ part_next 32 after-choice after-nonce (from_seal h b) f long
-
-  pub cut_in_seal : length after-nonce < 32 → Err BadLength ≡ answer h bs
-  cut_in_seal short = sym (to_seal ∙ part_short 32 after-nonce (from_box h b (take 32 after-choice)) short)
-
-  module _ (after-seal : List ℕ) (g : after-seal ≡ drop 32 after-nonce) (longer : length after-seal + 32 ≡ length after-nonce) where
-    to_box : answer h bs ≡ from_box h b (take 32 after-choice) (take 32 after-nonce) after-seal
-    to_box = to_seal ∙ part_next 32 after-nonce after-seal (from_box h b (take 32 after-choice)) g longer
-
-    pub cut_in_box : length after-seal < 48 → Err BadLength ≡ answer h bs
-    cut_in_box short = sym (to_box ∙ part_short 48 after-seal (from_signature h b (take 32 after-choice) (take 32 after-nonce)) short)
-
-    pub cut_in_signature : (after-box : List ℕ) → after-box ≡ drop 48 after-seal → length after-box + 48 ≡ length after-seal → length after-box < 64 → Err BadLength ≡ answer h bs
-    cut_in_signature after-box i longest short = sym (to_box ∙ part_next 48 after-seal after-box (from_signature h b (take 32 after-choice) (take 32 after-nonce)) i longest ∙ part_short 64 after-box (λ g bs. done bs (record { body = record { hello = h; choice = b; nonce = take 32 after-choice; seal = take 32 after-nonce; box = take 48 after-seal }; signature = g })) short)
 
 -- what was read of it
 pub record AnswerRead (h : Hello (List ℕ)) (bs : List ℕ) (r : Reply (List ℕ)) : Type 0 where
@@ -240,9 +223,3 @@ module _ (bs behind : List ℕ) (e : Ok behind ≡ behind_length kind_reply bs) 
         then_ok (behind_length kind_reply bs) (λ behind. and_then (hello_front behind) (λ p. answer p.0 p.1)) behind (sym e)
         ∙ then_ok (hello_front behind) (λ p. answer p.0 p.1) (h, p.0) p.1
         ∙ ap (answer h) (R.behind ∙ sym is)
-
-    pub then_part : hello_part bs ≡ Ok (take (hello_length h) behind)
-    then_part =
-        let p = not_alone (hello_front behind) h g in
-        then_ok (behind_length kind_reply bs) (λ behind. with (λ p. take (hello_length p.0) behind) (hello_front behind)) behind (sym e)
-        ∙ ap (with (λ p. take (hello_length p.0) behind)) p.1

@@ -1,5 +1,5 @@
 -- Each stage of reading: what it does at bytes that have it, and what was there where it passed. Assumes nothing.
-use Rattle.std.proofs.Common.{◌≡◌, ℕ, ◌+◌, ◌<◌, ◌≤◌, Bool, true, false, cond, eqb, ltb, List, [], ◌∷◌, ◌++◌, length, take, drop, Ok, Err, Result, sym, refl, ap, ◌∙◌, ap₂, arith, length-append}
+use Rattle.std.proofs.Common.{◌≡◌, ℕ, ◌<◌, ◌≤◌, Bool, true, false, cond, eqb, ltb, List, [], ◌∷◌, ◌++◌, length, take, drop, Ok, Err, Result, sym, refl, ap, ◌∙◌, ap₂, arith, length-append}
 use Rattle.std.proofs.lemmas.List.{take_at, drop_at, nil_from_length}
 use Rattle.std.proofs.lemmas.Bool.{le-ltb, lt-ltb, ltb-false, eqb-true}
 use Rattle.words.specs.declared.fault.Fault.{Fault}
@@ -36,9 +36,6 @@ part_at n p q k e =
 
 pub part_whole : {X : Type 0} (n : ℕ) (bs : List ℕ) (k : List ℕ → List ℕ → Result X Fault) → n ≤ length bs → part n bs k ≡ k (take n bs) (drop n bs)
 part_whole n bs k h = ap (λ t. cond t (Err BadLength) (k (take n bs) (drop n bs))) (le-ltb (length bs) n h)
-
-pub part_next : {X : Type 0} (n : ℕ) (bs left : List ℕ) (k : List ℕ → List ℕ → Result X Fault) → left ≡ drop n bs → length left + n ≡ length bs → part n bs k ≡ k (take n bs) left
-part_next n bs left k e h = part_whole n bs k (omega arith) ∙ ap (k (take n bs)) (sym e)
 
 pub part_short : {X : Type 0} (n : ℕ) (bs : List ℕ) (k : List ℕ → List ℕ → Result X Fault) → length bs < n → part n bs k ≡ Err BadLength
 part_short n bs k h = ap (λ t. cond t (Err BadLength) (k (take n bs) (drop n bs))) (lt-ltb (length bs) n h)

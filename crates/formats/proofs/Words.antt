@@ -1,5 +1,5 @@
 -- All three words: read one way, no cut and nothing longer taken, and what is signed. Assumes nothing.
-use Rattle.std.proofs.Common.{◌≡◌, ℕ, ◌+◌, ◌-◌, ◌*◌, ◌/◌, ◌%◌, ◌^◌, ◌<◌, cond, eqb, List, [], ◌∷◌, ◌++◌, length, get_or, take, drop, replicate, Some, None, Ok, Err, Option, Result, sym, refl, ap, ◌∙◌, subst, ap₂, append_assoc, mod-lt, arith, lit<, length-append}
+use Rattle.std.proofs.Common.{◌≡◌, ℕ, ◌+◌, ◌-◌, ◌*◌, ◌^◌, ◌<◌, cond, eqb, List, [], ◌∷◌, ◌++◌, length, get_or, take, drop, replicate, Some, None, Ok, Err, Option, Result, sym, refl, ap, ◌∙◌, subst, ap₂, append_assoc, arith, lit<, length-append}
 use Rattle.std.proofs.ByRecursion.{All-append, All-take, All-from_get_or}
 use Rattle.std.proofs.lemmas.List.{append-nil, take-append-drop, length-drop, nil_from_length, take_at, drop_at, get_or-replicate}
 use Rattle.fixed_bytes.specs.Numbers.{big_endian}
@@ -19,6 +19,7 @@ use Rattle.formats.specs.Whole.{Bytes, Sized, WholeHello, WholeBody, WholeReply,
 use Rattle.formats.specs.Laws.{OnlyMalformed, BytesAreReadOneWay, SignedBytesAreApart, PartsAreAsWritten}
 use Rattle.formats.proofs.Stages.{err_ok, ok_same, with_ok, by_then, by_done, by_byte}
 use Rattle.fixed_bytes.proofs.Numbers.{value_back}
+use Rattle.formats.proofs.Digits.{digits}
 use Rattle.formats.proofs.Hellos.{hello_read, hello_front_back}
 use Rattle.formats.proofs.Replies.{followed, followed_long, followed_is, hello_long, answer_long, offer_few, lock_few, reply_read, reply_back, end_read, end_back, behind_back}
 use Rattle.formats.proofs.Malformed.{all_malformed}
@@ -58,11 +59,8 @@ word_apart : (v w : Word (List ℕ)) → Whole v → Whole w → word_bytes v �
 word_apart v w V W e = ok_same v w (sym (word_back v V) ∙ ap read_word e ∙ word_back w W)
 
 -- whole words consist of bytes
-small : (n : ℕ) → n % 256 < 256
-small n = mod-lt n (lit< tt)
-
 front_bytes : (n : ℕ) (bs : List ℕ) → Bytes bs → Bytes (big_endian 2 n ++ bs)
-front_bytes n bs all = (small (n / 256), (small (n / 1), all))
+front_bytes n bs all = All-append (λ b. b < 256) (big_endian 2 n) bs (digits 2 n) all
 
 hello_all : (h : Hello (List ℕ)) → WholeHello h → Bytes (hello_bytes h)
 hello_all h w =

@@ -1,5 +1,5 @@
 -- What a hasher holds after each way to take bytes in. Assumes nothing.
-use Rattle.std.proofs.Common.{◌≡◌, ℕ, ◌+◌, ◌*◌, ◌/◌, ◌%◌, ◌^◌, ◌<◌, List, [], ◌++◌, length, take, drop, sym, refl, ap, ◌∙◌, subst, append_assoc, arith, length-append, length-drop}
+use Rattle.std.proofs.Common.{◌≡◌, ℕ, ◌+◌, ◌/◌, ◌%◌, ◌^◌, ◌<◌, List, [], ◌++◌, length, take, drop, sym, refl, ap, ◌∙◌, subst, append_assoc, arith, length-append, length-drop}
 use Rattle.std.proofs.lemmas.List.{append-nil, take_at, length-take-le, drop_all}
 use Rattle.sha256.specs.declared.state.State.{State}
 use Rattle.hashes.specs.declared.hasher.Hasher.{Hasher}
@@ -39,12 +39,6 @@ holds_block s buffer block h size e =
 -- a part of the message in two steps
 pub holds_both : (h : Hasher) (m xs ys bytes : List ℕ) → bytes ≡ xs ++ ys → Holds h ((m ++ xs) ++ ys) → Holds h (m ++ bytes)
 holds_both h m xs ys bytes e held = subst (Holds h) (append_assoc m xs ys ∙ ap (λ b. m ++ b) (sym e)) held
-
--- how many bytes the buffer has of the message, and what the message's length is
-length_held : (h : Hasher) (m : List ℕ) (held : Holds h m) → length m ≡ held.count * 64 + h.total % 64
-length_held h m held =
-    let part : length (take (h.total % 64) h.buffer) ≡ h.total % 64 = length-take-le (h.total % 64) h.buffer (omega (arith, held.sized)) in
-    ap length held.split ∙ length-append held.whole (take (h.total % 64) h.buffer) ∙ omega (arith, held.in_blocks)
 
 -- bytes that leave room in the buffer
 pub holds_buffered : (h : Hasher) (m bytes buffer : List ℕ) (total : ℕ)

@@ -1,8 +1,8 @@
 -- The blocks that a key is made into, and what is taken behind them. Assumes nothing.
-use Rattle.std.proofs.Common.{◌≡◌, ℕ, zero, ◌+◌, ◌-◌, ◌<◌, ◌≤◌, ltb, List, [], ◌++◌, ◌≢◌, map, length, get_or, drop, set, replicate, sym, refl, ap, ◌∙◌, subst, ⊎_elim, append_assoc, arith, length-append, length-set, get_or-set_other, get_or-set_same, below_more, ext_get_or}
+use Rattle.std.proofs.Common.{◌≡◌, ℕ, zero, ◌+◌, ◌-◌, ◌<◌, ◌≤◌, ltb, List, [], ◌++◌, length, drop, replicate, sym, refl, ap, ◌∙◌, subst, ⊎_elim, arith, length-append}
 use lib.Bits.{bit_xor}
 use lib.ListN.{length-replicate, length-map}
-use Rattle.std.proofs.lemmas.List.{append-nil, drop-replicate, get_or-map}
+use Rattle.std.proofs.lemmas.List.{append-nil, drop-replicate}
 use Rattle.std.proofs.lemmas.Bool.{cases_Bool, cond-true, cond-false, ltb-true, ltb-false, lt-ltb, le-ltb}
 use Rattle.hashes.specs.declared.hasher.Hasher.{Hasher}
 use Rattle.hashes.specs.Hmac.{filled_up, key_block, masked, inner_pad, outer_pad, hmac_sha256}
@@ -37,31 +37,6 @@ pub length_pad : (pad : ℕ) (key : List ℕ) → length (masked pad (key_block 
 unfolding masked
 length_pad pad key = length-map (key_block key) (λ b. bit_xor b pad) ∙ length_key_block key
 
--- the first bytes of a block are masked, and the others are as they were
-pub record MaskedTo (pad : ℕ) (block out : List ℕ) (n : ℕ) : Type 0 where
-  pub len : length out ≡ length block
-  pub done : (k : ℕ) → k < n → get_or out k 0 ≡ bit_xor (get_or block k 0) pad
-  pub rest : (k : ℕ) → n ≤ k → get_or out k 0 ≡ get_or block k 0
-
--- one more byte of a pad
-pub masked_more : (pad : ℕ) (block out : List ℕ) (n : ℕ) → n < length block → MaskedTo pad block out n → MaskedTo pad block (set out n (bit_xor (get_or out n 0) pad)) (n + 1)
-masked_more pad block out n h m = record {
-  len = length-set out n (bit_xor (get_or out n 0) pad) ∙ m.len;
-  done =
-      below_more (λ k. get_or (set out n (bit_xor (get_or out n 0) pad)) k 0 ≡ bit_xor (get_or block k 0) pad) n
-      (λ k l. let ne : k ≢ n = omega arith in get_or-set_other out n k (bit_xor (get_or out n 0) pad) 0 ne ∙ m.done k l)
-      (let long = m.len in get_or-set_same out n (bit_xor (get_or out n 0) pad) 0 (omega arith) ∙ ap (λ b. bit_xor b pad) (m.rest n (omega arith)));
-  rest = λ k l. let ne : k ≢ n = omega arith in get_or-set_other out n k (bit_xor (get_or out n 0) pad) 0 ne ∙ m.rest k (omega arith);
-}
-
-pub masked_all : (pad : ℕ) (block out : List ℕ) (n : ℕ) → length block ≡ n → MaskedTo pad block out n → out ≡ masked pad block
-unfolding masked
-masked_all pad block out n long m =
-    let f : ℕ → ℕ = λ b. bit_xor b pad in
-    let wide = length-map block f in
-    ext_get_or 0 out (map f block) (m.len ∙ sym wide)
-    (λ k h. let same = m.len in let inside : k < length block = omega arith in m.done k (omega arith) ∙ sym (get_or-map f block k 0 0 inside))
-
 -- a key written into a block of zeros
 pub filled_is : (key out : List ℕ) → out ≡ key ++ drop (0 + length key) (replicate 64 0) → out ≡ filled_up key
 filled_is key out e =
@@ -70,9 +45,6 @@ filled_is key out e =
 
 pub holds_pad_alone : (h : Hasher) (pad : List ℕ) → Holds h pad → Holds h (pad ++ [])
 holds_pad_alone h pad held = subst (Holds h) (sym (append-nil pad)) held
-
-pub holds_behind_pad : (h : Hasher) (pad m bytes : List ℕ) → Holds h ((pad ++ m) ++ bytes) → Holds h (pad ++ (m ++ bytes))
-holds_behind_pad h pad m bytes held = subst (Holds h) (append_assoc pad m bytes) held
 
 -- the outer sum over the inner one
 pub summed : (key m inner r : List ℕ) → inner ≡ sha256 (inner_pad key ++ m) → r ≡ sha256 (outer_pad key ++ inner) → r ≡ hmac_sha256 key m

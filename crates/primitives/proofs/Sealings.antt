@@ -38,9 +38,6 @@ module _ (g : GroupModel) where
   pub sealing_done : (x theirs before between key own : List ℕ) → key ≡ sealing_key g x theirs → own ≡ half g x → Behind 32 (λ b a. Closing key 0 [] b a true) before between → own ++ post_of 0 32 between ≡ sealed g x theirs (seal_content before)
   sealing_done x theirs before between key own k o (front, (f, e)) = ap (λ l. l ++ drop 32 between) o ∙ ap (λ l. half g x ++ l) e ∙ ap (λ z. half g x ++ closed z 0 [] (seal_content before)) k
 
-  pub opening_done : (key before after made : List ℕ) → made ≡ opening_key g key (front_half before) → Behind 32 (λ b a. Opening made 0 [] b a true) before after → Behind 32 (λ b a. Opening (opening_key g key (front_half before)) 0 [] b a true) before after
-  opening_done key before after made k b = subst (λ z. Behind 32 (λ b a. Opening z 0 [] b a true) before after) k b
-
   pub opening_refused : (key before after made : List ℕ) → made ≡ opening_key g key (front_half before) → Behind 32 (λ b a. Opening made 0 [] b a false) before after → (SealFits g key before → ⊥) × (after ≡ before)
   opening_refused key before after made k (front, (never, same)) = ((λ t. never (subst (λ z. Tagged z [] (behind_half before)) (sym k) t)), whole_same after before front same)
 

@@ -11,8 +11,8 @@ use Rattle.words.specs.declared.fault.Fault.TheVariants.{BadLength, SettingsUnkn
 use Rattle.words.specs.Registry.{kind_settings}
 use Rattle.formats.specs.Reading.{alone, and_then, must, number, listing}
 use Rattle.formats.specs.Whole.{Bytes}
-use Rattle.formats.proofs.Stages.{ok_same, not_alone, must_true, part_at, then_ok, by_then, by_must, by_part, by_kind}
-use Rattle.formats.proofs.Ciphers.{listing_is, listing_back}
+use Rattle.formats.proofs.Stages.{ok_same, must_true, part_at, then_ok, by_then, by_must, by_part, by_kind}
+use Rattle.formats.proofs.Ciphers.{listing_is, listing_front, listing_then, listing_back}
 use Rattle.formats.proofs.Digits.{number_is}
 use Rattle.formats.proofs.Hellos.{both_bytes}
 use Rattle.record_formats.specs.Settings.{Settings, settings_bytes, most_sides, sides_in, keys_fit, settings_keys, own_number, read_settings, WholeSettings, half_at}
@@ -41,21 +41,9 @@ half_there halves pieces n m half e same h is =
 
 -- the code's way through settings: the own number, the ciphers, and what is left for the keys
 module _ (bs rest : List ℕ) (own : ℕ) (cs : List ℕ) (n : ℕ) (numbered : Ok (own, rest) ≡ own_number bs) (preferred : Ok cs ≡ alone (listing SettingsTooManyCiphers SettingsCipherTwice rest)) (counted : n ≡ length cs) where
-  pub list_fits : 1 + n ≤ length rest
-  list_fits =
-      let p = not_alone (listing SettingsTooManyCiphers SettingsCipherTwice rest) cs preferred in
-      let L = listing_is SettingsTooManyCiphers SettingsCipherTwice rest cs p.0 p.1 in
-      omega (arith, ap length L.is, length-append cs p.0)
-
   module _ (listed behind : List ℕ) (front : listed ≡ take (1 + n) rest) (back : behind ≡ drop (1 + n) rest) where
-    one : length (length cs ∷ cs) ≡ 1 + n
-    one = omega (arith, counted)
-
     pub ciphers_are : drop 1 listed ≡ cs
-    ciphers_are =
-        let p = not_alone (listing SettingsTooManyCiphers SettingsCipherTwice rest) cs preferred in
-        let L = listing_is SettingsTooManyCiphers SettingsCipherTwice rest cs p.0 p.1 in
-        ap (drop 1) (front ∙ ap (take (1 + n)) L.is ∙ take_at (length cs ∷ cs) p.0 (1 + n) one)
+    ciphers_are = ap (drop 1) (front ∙ listing_front SettingsTooManyCiphers SettingsCipherTwice rest cs n preferred counted)
 
     made : List ℕ × List ℕ → Result Settings Fault
     made k = Ok (record { own = own; preferences = cs; halves = k.0; key = k.1 })
@@ -63,10 +51,8 @@ module _ (bs rest : List ℕ) (own : ℕ) (cs : List ℕ) (n : ℕ) (numbered : 
     behind_list : read_settings bs ≡ and_then (settings_keys own behind) made
     unfolding made
     behind_list =
-        let p = not_alone (listing SettingsTooManyCiphers SettingsCipherTwice rest) cs preferred in
-        let L = listing_is SettingsTooManyCiphers SettingsCipherTwice rest cs p.0 p.1 in
-        let same : p.0 ≡ behind = sym (drop_at (length cs ∷ cs) p.0 (1 + n) one) ∙ ap (drop (1 + n)) (sym L.is) ∙ sym back in
-        then_ok (own_number bs) _ (own, rest) (sym numbered) ∙ then_ok (listing SettingsTooManyCiphers SettingsCipherTwice rest) _ (cs, p.0) p.1 ∙ ap (λ r. and_then (settings_keys own r) made) same
+        then_ok (own_number bs) _ (own, rest) (sym numbered)
+        ∙ then_ok (listing SettingsTooManyCiphers SettingsCipherTwice rest) _ (cs, behind) (listing_then SettingsTooManyCiphers SettingsCipherTwice rest cs n preferred counted behind back)
 
     pub keys_faulty : (f : Fault) → Err f ≡ settings_keys own behind → Err f ≡ read_settings bs
     keys_faulty f e = sym (behind_list ∙ ap (λ r. and_then r made) (sym e))

@@ -1,19 +1,19 @@
 -- Records: what is read was written so, what is written is read back, and nothing cut or longer is taken. Assumes nothing.
-use Rattle.std.proofs.Common.{◌≡◌, ℕ, zero, suc, ◌+◌, ◌-◌, ◌/◌, ◌%◌, ◌^◌, ◌<◌, ◌≤◌, eqb, leb, List, [], ◌∷◌, ◌++◌, length, take, drop, Ok, Err, Result, sym, refl, ap, ◌∙◌, subst, ap₂, append_assoc, mod-lt, arith, lit<, length-append}
+use Rattle.std.proofs.Common.{◌≡◌, ℕ, ◌+◌, ◌-◌, ◌<◌, ◌≤◌, eqb, leb, List, [], ◌∷◌, ◌++◌, length, take, drop, Ok, Result, sym, refl, ap, ◌∙◌, subst, ap₂, append_assoc, arith, lit<, length-append}
 use Rattle.std.proofs.ByRecursion.{All-append, All-take, All-drop}
 use Rattle.std.proofs.lemmas.List.{append-nil, take-append-drop, length-take-le, length-drop, nil_from_length, drop_at, drop-drop}
 use Rattle.std.proofs.lemmas.Bool.{eqb-true, eq-eqb, and_parts, and_from, leb-true, le-leb}
 use Rattle.fixed_bytes.specs.Numbers.{big_endian, value}
 use Rattle.fixed_bytes.proofs.Numbers.{value_back}
 use Rattle.words.specs.declared.fault.Fault.{Fault}
-use Rattle.words.specs.declared.fault.Fault.TheVariants.{BadLength, UnknownKind}
+use Rattle.words.specs.declared.fault.Fault.TheVariants.{BadLength}
 use Rattle.words.specs.Registry.{kind_record}
 use Rattle.formats.specs.Encoding.{tag_length}
 use Rattle.formats.specs.Laws.{OnlyMalformed}
 use Rattle.formats.specs.Reading.{must, part, number}
 use Rattle.formats.specs.Whole.{Bytes}
-use Rattle.formats.proofs.Stages.{ok_same, must_true, part_at, part_next, part_short, by_must, by_part, by_kind}
-use Rattle.formats.proofs.Digits.{number_is, number_fits}
+use Rattle.formats.proofs.Stages.{ok_same, must_true, part_at, by_must, by_part, by_kind}
+use Rattle.formats.proofs.Digits.{number_is, number_fits, digits}
 use Rattle.formats.proofs.Malformed.{taken, at_must, at_part, at_kind, at_number}
 use Rattle.formats.proofs.Words.{got_malformed}
 use Rattle.record_formats.specs.Records.{Record, record_bytes, sendable, read_record, WholeRecord}
@@ -31,14 +31,6 @@ behind_session s bs = number 8 bs (behind_number s)
 
 abbrev behind_kind : List ℕ → Result (Record (List ℕ)) Fault
 behind_kind bs = part 4 bs behind_session
-
--- cut in its number
-pub cut_in_number : (bs left0 left1 : List ℕ) (b : ℕ) → bs ≡ b ∷ left0 → b ≡ kind_record → left1 ≡ drop 4 left0 → length left1 + 4 ≡ length left0 → length left1 < 8 → Err BadLength ≡ read_record bs
-cut_in_number bs left0 left1 b e is f long short = sym (
-    ap read_record e
-    ∙ must_true (eqb b kind_record) UnknownKind (behind_kind left0) (eq-eqb b kind_record is)
-    ∙ part_next 4 left0 left1 behind_session f long
-    ∙ part_short 8 left1 (λ p rest. behind_number (take 4 left0) (value p) rest) short)
 
 pub record RecordRead (bs : List ℕ) (r : Record (List ℕ)) : Type 0 where
   pub is : bs ≡ record_bytes r
@@ -102,13 +94,6 @@ all_malformed bs =
     (at_must (eqb (len + tag_length) (length bs)) BadLength (Ok (record { session = s; number = n; closed = bs })) refl (taken (record { session = s; number = n; closed = bs })))))))
 
 -- a record consists of bytes
-small : (n : ℕ) → n % 256 < 256
-small n = mod-lt n (lit< tt)
-
-digits : (k n : ℕ) → Bytes (big_endian k n)
-digits zero n = tt
-digits (suc k) n = (small (n / 256 ^ k), digits k n)
-
 record_all : (r : Record (List ℕ)) → WholeRecord r → Bytes (record_bytes r)
 record_all r w =
     let len = length r.closed - tag_length in (

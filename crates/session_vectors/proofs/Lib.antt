@@ -1,2 +1,1 @@
-pub mod WrittenBack
 pub mod Sessions

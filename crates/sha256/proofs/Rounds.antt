@@ -1,5 +1,5 @@
 -- How words, schedules and rounds split, and the order of a round's sum. Assumes nothing.
-use Rattle.std.proofs.Common.{◌≡◌, ℕ, zero, suc, ◌+◌, ◌*◌, ◌<◌, ◌≤◌, List, [], ◌∷◌, ◌++◌, length, get_or, take, drop, sym, refl, ap, ◌∙◌, suc-add, zero-add, arith, length-append}
+use Rattle.std.proofs.Common.{◌≡◌, ◌⊎◌, inl, inr, ℕ, zero, suc, ◌+◌, ◌*◌, ◌<◌, ◌≤◌, List, [], ◌∷◌, ◌++◌, length, get_or, take, drop, sym, refl, ap, ◌∙◌, suc-add, zero-add, arith, length-append}
 use Rattle.std.proofs.lemmas.List.{drop-drop, take-append-le, take_all, get_or-take}
 use Rattle.std.specs.Simd.{first_chunks}
 use Rattle.sha256.specs.declared.state.State.{State}
@@ -118,16 +118,11 @@ chunk_word bytes chunks k i x h e sum =
     ∙ rw (get_or-take 4 rest 0 0 (omega arith), get_or-take 4 rest 1 0 (omega arith), get_or-take 4 rest 2 0 (omega arith), get_or-take 4 rest 3 0 (omega arith)) refl
 
 -- without constants, or without words, there is no round
-pub no_constants : (s : State) (ks ws : List ℕ) → length ks ≡ 0 → rounds s (sums ks ws) ≡ s
+pub none_left : (s : State) (ks ws : List ℕ) → (ks ≡ []) ⊎ (ws ≡ []) → rounds s (sums ks ws) ≡ s
 unfolding rounds sums
-no_constants s [] ws e = refl
-no_constants s (k ∷ ks) ws e = absurd (omega (arith, e))
-
-pub no_words : (s : State) (ks ws : List ℕ) → length ws ≡ 0 → rounds s (sums ks ws) ≡ s
-unfolding rounds sums
-no_words s [] [] e = refl
-no_words s (k ∷ ks) [] e = refl
-no_words s ks (w ∷ ws) e = absurd (omega (arith, e))
+none_left s ks ws (inl e) = ap (λ l. rounds s (sums l ws)) e
+none_left s [] ws (inr e) = refl
+none_left s (k ∷ ks) ws (inr e) = ap (λ l. rounds s (sums (k ∷ ks) l)) e
 
 -- the compression of a block, in quarters of its rounds
 pub by_quarters : (s : State) (block k0 k1 k2 k3 : List ℕ)

@@ -3,8 +3,8 @@ use Rattle.std.proofs.Common.{◌≡◌, ℕ, ◌+◌, ◌<◌, ◌≤◌, Bool,
 use lib.ListN.{length-map}
 use Rattle.std.specs.List.{list_any}
 use Rattle.std.proofs.lemmas.Bool.Decides.{nat_tests}
-use Rattle.std.proofs.lemmas.List.{append-nil, drop_all, drop_more, length_push, length-take-le, take_more_set, map_push}
-use Rattle.std.proofs.lemmas.Bool.{both_ways, cases_Bool, cond-true, cond-false, or_cases, or_parts, or_from, or_left, or_right, and_parts, and_from, and_left, and_right, and_cases, not_from_true, not_from_false, not-true, not-false, eqb-true, eq-eqb, ne_eqb, eqb-false, leb-true, leb-false, le-leb, le-ltb, lt-ltb, ltb-true, ltb-false}
+use Rattle.std.proofs.lemmas.List.{drop_more, length_push, length-take-le, take_more_set, map_push}
+use Rattle.std.proofs.lemmas.Bool.{both_ways, cases_Bool, cond-true, cond-false, or_cases, or_parts, or_from, or_left, or_right, and_parts, and_from, and_left, and_right, and_cases, not_from_true, not_from_false, not-true, not-false, eqb-true, eq-eqb, ne_eqb, eqb-false, leb-true, le-leb, le-ltb, lt-ltb, ltb-true, ltb-false}
 use Rattle.words.specs.declared.cipher.Cipher.{Cipher}
 use Rattle.words.specs.declared.fault.Fault.{Fault}
 use Rattle.words.specs.declared.fault.Fault.TheVariants.{NoCipher, TooManyCiphers, CipherTwice}
@@ -90,9 +90,6 @@ proper_parts cs h =
 pub proper_from : (cs : List ℕ) → Proper cs → proper cs ≡ true
 proper_from cs h = and_from _ _ (and_from _ _ (le-leb 1 _ h.some) (le-leb _ 16 h.few)) h.apart
 
-proper_taken : (cs : List ℕ) → proper cs ≡ true → taken cs ≡ Ok cs
-proper_taken cs h = let p = proper_parts cs h in taken_good cs p.some p.few p.apart
-
 -- a list is taken exactly if it is proper
 taken_exactly : (cs : List ℕ) → is_ok (taken cs) ≡ proper cs
 taken_exactly cs = by_tests (length cs) (distinct cs) where
@@ -162,17 +159,6 @@ pub told : (cs : List ℕ) (r : Result Preferences Fault) → made r ≡ taken c
 told cs (Ok p) h = ap is_ok h ∙ taken_exactly cs
 told cs (Err f) h = ap is_ok h ∙ taken_exactly cs
 
-pub none_taken : (cs : List Cipher) → length cs ≡ 0 → taken (numbers cs) ≡ Err NoCipher
-none_taken [] h = refl
-none_taken (c ∷ cs) h = absurd (omega arith)
-
-pub many_taken : (cs : List Cipher) → leb (length cs) most_ciphers ≡ false → taken (numbers cs) ≡ Err TooManyCiphers
-many_taken cs h = taken_many (numbers cs) (omega (arith, leb-false _ 16 h, length-map cs (λ x. x.number)))
-
--- the ciphers so far and those to come
-pub begins : (cs rest : List Cipher) (first : Cipher) (sofar : List ℕ) → cs ≡ first ∷ rest → sofar ≡ first.number ∷ [] → sofar ++ numbers rest ≡ numbers cs
-begins cs rest first sofar is one = ap (λ l. l ++ numbers rest) one ∙ ap numbers (sym is)
-
 goes_on : (sofar : List ℕ) (rest : List Cipher) (i : ℕ) (d : Cipher) → i < length rest → sofar ++ numbers (drop i rest) ≡ (sofar ++ (get_or rest i d).number ∷ []) ++ numbers (drop (i + 1) rest)
 goes_on sofar rest i d h = ap (λ l. sofar ++ numbers l) (drop_more rest i d h) ∙ sym (append_assoc sofar ((get_or rest i d).number ∷ []) (numbers (drop (i + 1) rest)))
 
@@ -181,13 +167,3 @@ pub stops : (sofar all : List ℕ) (rest : List Cipher) (i : ℕ) (d : Cipher) (
 stops sofar all rest i d f h is few bad =
     let whole = sym (goes_on sofar rest i d h) ∙ is in
     ap taken (sym whole) ∙ refused_front (sofar ++ (get_or rest i d).number ∷ []) (numbers (drop (i + 1) rest)) f (omega (arith, length_push sofar (get_or rest i d).number)) (subst (λ l. length l ≤ most_ciphers) (sym whole) few) (refuses sofar (get_or rest i d).number f bad)
-
--- all are added
-pub ends : (sofar all : List ℕ) (rest : List Cipher) (i : ℕ) → length rest ≤ i → sofar ++ numbers (drop i rest) ≡ all → proper sofar ≡ true → Ok sofar ≡ taken all
-ends sofar all rest i h is sound =
-    let same = sym (append-nil sofar) ∙ (ap (λ l. sofar ++ numbers l) (sym (drop_all i rest h)) ∙ is) in
-    sym (proper_taken sofar sound) ∙ ap taken same
-
--- one more is added
-pub added : (sofar more all : List ℕ) (rest : List Cipher) (i : ℕ) (d : Cipher) → i < length rest → sofar ++ numbers (drop i rest) ≡ all → more ≡ sofar ++ (get_or rest i d).number ∷ [] → more ++ numbers (drop (i + 1) rest) ≡ all
-added sofar more all rest i d h is longer = ap (λ l. l ++ numbers (drop (i + 1) rest)) longer ∙ sym (goes_on sofar rest i d h) ∙ is

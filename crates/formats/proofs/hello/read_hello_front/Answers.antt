@@ -1,11 +1,13 @@
 use Rattle.std.proofs.Common.{◌∙◌, arith}
 use Rattle.words.specs.Listed.{listed}
-use Rattle.formats.proofs.Hellos.{list_fits, nonce_cut, half_cut, front_found}
+use Rattle.words.specs.declared.fault.Fault.TheVariants.{TooManyCiphers, CipherTwice}
+use Rattle.formats.proofs.Ciphers.{listing_fits}
+use Rattle.formats.proofs.Hellos.{nonce_cut, half_cut, front_found}
 use Rattle.formats.proofs.hello.read_hello_front.Goals as goal
 
 pub returns-in_default : goal.returns-in_default
 returns-in_default c =
-    let fits = list_fits c.args.bytes.now c.in_ok-caller.rest.now _ _ (listed c.in_ok-offer.offer) c.len.result c.in_ok-caller.ensures c.in_ok-offer.ensures c.len.ensures in
+    let fits = listing_fits TooManyCiphers CipherTwice c.in_ok-caller.rest.now (listed c.in_ok-offer.offer) c.len.result c.in_ok-offer.ensures c.len.ensures in
     absurd (omega (arith, fits, c.in_default.ensures.cases))
 
 pub returns-in_default-split_first_chunk : goal.returns-in_default-split_first_chunk

@@ -2,18 +2,8 @@ use Rattle.std.proofs.Common.{◌≡◌, Err, sym, refl, ap, ◌∙◌, subst}
 use Rattle.std.proofs.lemmas.Result.{err_from_is_err_and}
 use Rattle.primitives.specs.Seals.{front_half, Unsealing}
 use Rattle.primitives.specs.declared.seals.NotOpened.TheVariants.{Shut}
-use Rattle.primitives.proofs.Sealings.{no_half, not_one, opening_key_is, opening_done, opening_refused}
+use Rattle.primitives.proofs.Sealings.{no_half, opening_key_is, opening_refused}
 use Rattle.primitives.proofs.seals.open_seal.Goals as goal
-
-pub returns : goal.returns
-returns g c =
-    let model = g.G.Group.model in
-    let split = rw c.in_ok-front.ensures.ok_part at c.split_first_chunk.ensures.cases in
-    let own : c.from.result.bytes ≡ front_half c.args.bytes.now = c.from.ensures ∙ split.0 in
-    let key = opening_key_is model c.args.key.now.0.bytes c.from.result.bytes (front_half c.args.bytes.now) c.common-agreed.result.0.bytes c.public_half.result.0.bytes c.seal_key-closing.result.key.bytes own c.common-agreed.ensures c.public_half.ensures c.seal_key-closing.ensures in (
-      not_one c.common-agreed.result.0.bytes (model.raise c.args.key.now.0.bytes (front_half c.args.bytes.now)) model.one (c.common-agreed.ensures ∙ ap (model.raise c.args.key.now.0.bytes) own) c.if-is_one.ensures,
-      opening_done model c.args.key.now.0.bytes c.args.bytes.now c.open_behind.new.word c.seal_key-closing.result.key.bytes key c.in_ok-open_behind.ensures,
-    )
 
 -- a string that is shorter than a half has nothing to open
 pub returns-in_err-front : goal.returns-in_err-front

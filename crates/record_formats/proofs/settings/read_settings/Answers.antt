@@ -3,12 +3,14 @@ use Rattle.std.proofs.lemmas.Result.{err_from_is_err_and}
 use Rattle.words.specs.Listed.{listed}
 use Rattle.formats.specs.Reading.{with}
 use Rattle.record_formats.specs.Views.{as_settings}
-use Rattle.record_formats.proofs.Keys.{list_fits, keys_faulty, keys_found}
+use Rattle.words.specs.declared.fault.Fault.TheVariants.{SettingsTooManyCiphers, SettingsCipherTwice}
+use Rattle.formats.proofs.Ciphers.{listing_fits}
+use Rattle.record_formats.proofs.Keys.{keys_faulty, keys_found}
 use Rattle.record_formats.proofs.settings.read_settings.Goals as goal
 
 pub returns-in_default : goal.returns-in_default
 returns-in_default c =
-    let fits = list_fits c.args.bytes.now c.in_ok-own.rest.now c.in_ok-own.own (listed c.in_ok-list.list) c.len.result c.in_ok-own.ensures c.in_ok-list.ensures c.len.ensures in
+    let fits = listing_fits SettingsTooManyCiphers SettingsCipherTwice c.in_ok-own.rest.now (listed c.in_ok-list.list) c.len.result c.in_ok-list.ensures c.len.ensures in
     absurd (omega (arith, fits, c.in_default.ensures.cases))
 
 pub returns-in_err-halves : goal.returns-in_err-halves

@@ -1,8 +1,10 @@
-use Rattle.std.proofs.Common.{◌++◌, append-nil, ap, ◌∙◌}
+use Rattle.std.proofs.Common.{◌≡◌, ◌++◌, append-nil, ap, ◌∙◌, rules}
+use Rattle.fixed_bytes.specs.Numbers.{big_endian}
 use Rattle.fixed_bytes.specs.Zeros.{zeros}
-use Rattle.fixed_bytes.proofs.Numbers.{eight_written}
 use Rattle.stand_in.proofs.number.element_of.Goals as goal
 
 pub returns : goal.returns
 unfolding zeros
-returns c = ap (λ l. zeros 24 ++ l) (append-nil c.copy_from_slice.new.self ∙ c.copy_from_slice.ensures.after ∙ eight_written _ _ c.to_be_bytes.ensures)
+returns c =
+    let written : c.to_be_bytes.result ≡ big_endian 8 c.args.number = search rules in
+    ap (λ l. zeros 24 ++ l) (append-nil c.copy_from_slice.new.self ∙ c.copy_from_slice.ensures.after ∙ written)
