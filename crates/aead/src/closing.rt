@@ -83,7 +83,8 @@ pub fn open<K: CipherKey>(key: &K, n: u64, head: &[u8], bytes: &mut [u8]) -> Res
 }
 
 // What stands behind the first bytes of a word is closed in its place; they stay. This and the next don't lend a closure to
-// one function: the closure would need a contract of its own, longer than the lines that it saves.
+// one function: the closure would need a contract of its own, longer than the lines that it saves. They take a word with the
+// place where its closed part begins, a rule of the project: the part is lent on and closed in its place.
 pub fn close_behind<K: CipherKey>(
     key: &K,
     n: u64,

@@ -89,7 +89,8 @@ fn initial<T: Word>(key: &[u8; 32], counter: u32, nonce: &[u8; 12]) -> [T; 16]
     ]
 }
 
-// The bytes of a block: the sums of its words, each with its low byte first.
+// The bytes of a block: the sums of its words, each with its low byte first. A zip of both under `enumerate` was tried: no
+// invariant could name the place.
 fn sum_bytes<T: Word>(a: &[T; 16], b: &[T; 16], n: usize) -> [u8; 64]
     requires { n < T.Word.lanes }
     ensures { (j : ℕ) → j < 64 → slice_index result j ≡ sum_byte (map (T.Word.lane n) a.now) (map (T.Word.lane n) b.now) j }
@@ -103,7 +104,8 @@ fn sum_bytes<T: Word>(a: &[T; 16], b: &[T; 16], n: usize) -> [u8; 64]
 }
 
 // The bytes from a place on, as many as a block has or as there are, turned by a block. The bytes are lent with a place in
-// them and not in chunks, since nothing is known of bytes that were written through a chunk.
+// them and the loop goes over the stream, since nothing is known of bytes that were written through chunks or through an
+// adapter of `iter_mut`.
 fn turn_block(bytes: &mut [u8], at: usize, stream: &[u8; 64])
     requires { at + 64 < 2 ^ 64 }
     ensures { PartTurned (λ j. slice_index stream.now j) bytes.old bytes.new at (min (length bytes.old) (at + 64)) }

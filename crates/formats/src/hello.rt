@@ -31,7 +31,7 @@ impl Hello {
 }
 
 // Who calls and who is called, and what follows.
-// Each answer is taken apart by `let .. else`: a rule of the project for readers.
+// Parts are taken by `let .. else`, a rule of the project for readers.
 fn read_names(bytes: &[u8]) -> Result<(u16, u16, &[u8]), Fault>
     ensures { with named result ≡ names bytes.now }
 {
@@ -50,7 +50,7 @@ fn read_names(bytes: &[u8]) -> Result<(u16, u16, &[u8]), Fault>
 }
 
 // A hello at the front of some bytes.
-// Each answer is taken apart by `let .. else`: a rule of the project for readers.
+// Parts are taken by `let .. else`, a rule of the project for readers.
 pub fn read_hello_front(bytes: &[u8]) -> Result<Hello, Fault>
     ensures { with as_hello result ≡ alone (hello_front bytes.now) }
 {

@@ -8,7 +8,7 @@ use words::fault::Fault;
 use words::registry::Kind;
 
 // What follows the kind.
-// Each answer is taken apart by `let .. else`: a rule of the project for readers.
+// Parts are taken by `let .. else`, a rule of the project for readers.
 pub fn behind_kind(bytes: &[u8], kind: Kind) -> Result<&[u8], Fault>
     ensures { with seen result ≡ behind_kind (kind_byte kind) bytes.now }
 {

@@ -16,7 +16,7 @@ fn tells(length: u16, behind: usize) -> bool
 }
 
 // What follows the kind and the length.
-// Each answer is taken apart by `let .. else`: a rule of the project for readers.
+// Parts are taken by `let .. else`, a rule of the project for readers.
 pub fn behind_length(bytes: &[u8], kind: Kind) -> Result<&[u8], Fault>
     ensures { with seen result ≡ behind_length (kind_byte kind) bytes.now }
 {

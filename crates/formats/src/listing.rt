@@ -23,7 +23,7 @@ fn is_new(list: &Preferences, number: u8) -> bool
 }
 
 // So many ciphers, none twice, each refused at its byte.
-// Each answer is taken apart by `let .. else`: a rule of the project for readers.
+// Parts are taken by `let .. else`, a rule of the project for readers.
 fn read_so_many(count: u8, bytes: &[u8], twice: Fault) -> Result<Preferences, Fault>
     requires some { 0 < count }
     requires few { count ≤ most_ciphers }
@@ -33,6 +33,7 @@ fn read_so_many(count: u8, bytes: &[u8], twice: Fault) -> Result<Preferences, Fa
         return Err(Fault::BadLength);
     };
     let mut list = Preferences::only(Cipher::new(*first));
+    // The range counts how many are to come, which no slice says: the bytes may end before.
     for i in 1..count {
         let Some((number, after)) = rest.split_first() else {
             return Err(Fault::BadLength);
@@ -47,7 +48,7 @@ fn read_so_many(count: u8, bytes: &[u8], twice: Fault) -> Result<Preferences, Fa
 }
 
 // 1 to 16 ciphers behind their count, none twice; or the first fault, where too many and one twice are told as the caller says.
-// Each answer is taken apart by `let .. else`: a rule of the project for readers.
+// Parts are taken by `let .. else`, a rule of the project for readers.
 pub fn read_ciphers(bytes: &[u8], many: Fault, twice: Fault) -> Result<Preferences, Fault>
     ensures { with listed result ≡ alone (listing many twice bytes.now) }
 {

@@ -28,7 +28,7 @@ pub struct Reply {
 }
 
 // What follows the hello, up to the end.
-// Each answer is taken apart by `let .. else`: a rule of the project for readers.
+// Parts are taken by `let .. else`, a rule of the project for readers.
 fn read_answer(hello: Hello, bytes: &[u8]) -> Result<Reply, Fault>
     ensures { with as_reply result ≡ answer (as_hello hello) bytes.now }
 {
@@ -64,7 +64,7 @@ fn read_answer(hello: Hello, bytes: &[u8]) -> Result<Reply, Fault>
 }
 
 // A whole reply, or its first fault.
-// Each answer is taken apart by `let .. else`: a rule of the project for readers.
+// Parts are taken by `let .. else`, a rule of the project for readers.
 pub fn read_reply(bytes: &[u8]) -> Result<Reply, Fault>
     ensures { with as_reply result ≡ read_reply bytes.now }
 {
@@ -77,7 +77,7 @@ pub fn read_reply(bytes: &[u8]) -> Result<Reply, Fault>
 }
 
 // The hello in a reply, as it stands there.
-// Each answer is taken apart by `let .. else`: a rule of the project for readers.
+// Parts are taken by `let .. else`, a rule of the project for readers.
 pub fn hello_in(reply: &[u8]) -> Result<&[u8], Fault>
     ensures { with seen result ≡ hello_part reply.now }
 {

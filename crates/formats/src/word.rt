@@ -19,7 +19,7 @@ pub enum Word {
 }
 
 // A whole word, or its first fault.
-// Each answer is taken apart by `let .. else`: a rule of the project for readers.
+// Parts are taken by `let .. else`, a rule of the project for readers.
 pub fn read_word(bytes: &[u8]) -> Result<Word, Fault>
     ensures { with (as_word bytes.now) result ≡ read_word bytes.now }
 {

@@ -1,6 +1,6 @@
 -- How the compression of many blocks splits. Assumes nothing.
-use Rattle.std.proofs.Common.{◌≡◌, ℕ, zero, suc, ◌+◌, ◌-◌, ◌*◌, ◌/◌, ◌<◌, ◌≤◌, List, [], ◌++◌, length, take, drop, refl, ap, ◌∙◌, suc-add, zero-add, arith, length-drop}
-use Rattle.std.proofs.lemmas.List.{take-append-le, drop-append-le, take_all, nil_from_length}
+use Rattle.std.proofs.Common.{◌≡◌, ℕ, zero, suc, ◌+◌, ◌*◌, ◌≤◌, List, [], ◌++◌, length, take, drop, refl, ap, sym, ◌∙◌, ap₂, suc-add, zero-add, arith, length-drop}
+use Rattle.std.proofs.lemmas.List.{take-append-le, drop-append-le, drop-drop, take_all, nil_from_length}
 use Rattle.sha256.specs.declared.state.State.{State}
 use Rattle.sha256.specs.Sha256.{compressed, blocks}
 
@@ -22,18 +22,15 @@ pub blocks_one : (s : State) (block : List ℕ) → length block ≡ 64 → bloc
 unfolding blocks
 blocks_one s block h = ap (compressed s) (take_all 64 block (omega arith))
 
--- the next whole block of the bytes
-pub blocks_next : (s : State) (bytes block behind : List ℕ) → 64 ≤ length bytes → block ≡ take 64 bytes → behind ≡ drop 64 bytes
-    → blocks (length behind / 64) (compressed s block) behind ≡ blocks (length bytes / 64) s bytes
+-- one block more, which stands behind the others
+pub blocks_more : (n : ℕ) (s t : State) (bytes block : List ℕ) → t ≡ blocks n s bytes → block ≡ take 64 (drop (64 * n) bytes) → compressed t block ≡ blocks (n + 1) s bytes
 unfolding blocks
-blocks_next s bytes block behind h e f =
-    let size : length behind ≡ length bytes - 64 = ap length f ∙ length-drop 64 bytes in
-    let one_more : length bytes / 64 ≡ suc (length behind / 64) = omega arith in
-    rw (one_more, e, f) refl
+blocks_more zero s t bytes block e f = ap₂ compressed e f
+blocks_more (suc n) s t bytes block e f =
+    let on : 64 + 64 * n ≡ 64 * suc n = omega arith in
+    blocks_more n (compressed s (take 64 bytes)) t (drop 64 bytes) block e (f ∙ ap (take 64) (sym (drop-drop (64 * n) 64 bytes ∙ ap (λ m. drop m bytes) on)))
+    ∙ sym (ap (λ m. blocks m s bytes) (suc-add n 1))
 
--- and where there is none
-pub blocks_none : (s : State) (bytes : List ℕ) → length bytes < 64 → blocks (length bytes / 64) s bytes ≡ s
+pub blocks_none : (s : State) (bytes : List ℕ) → s ≡ blocks 0 s bytes
 unfolding blocks
-blocks_none s bytes h =
-    let none : length bytes / 64 ≡ 0 = omega arith in
-    rw none refl
+blocks_none s bytes = refl

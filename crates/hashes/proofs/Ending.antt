@@ -1,11 +1,10 @@
 -- The last one or two blocks of a message are its rest and its padding. Assumes nothing.
-use Rattle.std.proofs.Common.{◌≡◌, ℕ, zero, suc, ◌+◌, ◌-◌, ◌*◌, ◌/◌, ◌%◌, ◌^◌, ◌<◌, ◌≤◌, List, [], ◌∷◌, ◌++◌, length, get_or, take, drop, set, replicate, sym, refl, ap, ◌∙◌, append_assoc, arith, length-append}
+use Rattle.std.proofs.Common.{◌≡◌, ℕ, zero, suc, ◌+◌, ◌-◌, ◌*◌, ◌/◌, ◌%◌, ◌^◌, ◌<◌, ◌≤◌, List, [], ◌∷◌, ◌++◌, length, take, drop, set, replicate, sym, refl, ap, ◌∙◌, append_assoc, arith, length-append}
 use lib.ListN.{length-replicate}
 use Rattle.std.proofs.lemmas.List.{append-nil, take_at, set_at, drop_all, drop-replicate, length-take-le, replicate-append-replicate}
 use Rattle.sha256.specs.declared.state.State.{State}
 use Rattle.hashes.specs.declared.hasher.Hasher.{Hasher}
-use Rattle.sha256.specs.Sha256.{initial, compressed, blocks, number_bytes, zeros, padding, padded, digested, state_bytes}
-use Rattle.sha256.specs.Words.{word_bytes}
+use Rattle.sha256.specs.Sha256.{initial, compressed, blocks, number_bytes, zeros, padding, padded, digested}
 use Rattle.hashes.specs.Streams.{Holds}
 use Rattle.hashes.proofs.Blocks.{blocks_append, blocks_one}
 

@@ -12,8 +12,8 @@ const INNER_PAD: u8 = 0x36;
 
 const OUTER_PAD: u8 = 0x5c;
 
-// A key, kept as the states after its two pads. C keeps it in memory of its own, so the type says nothing of which key it is:
-// `Keyed` and `HoldsUnder` stand in the clauses.
+// A key, kept as the states after its two pads. Which key it is no field says, and C hands it in, so no fact of the type could
+// tie it to one: `Keyed` and `HoldsUnder` stand in the clauses.
 #[repr(C)]
 #[derive(Clone, Copy)]
 pub struct HmacKey {

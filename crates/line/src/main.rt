@@ -11,6 +11,7 @@ fn main(rt: HostRuntime) -> io::Result<()> {
 }
 
 // Plays the scripts that are named by argument, or else the one on standard input.
+// These lines stand in `read` too: a function that is lent two closures would be longer.
 fn run(rt: &HostRuntime) -> io::Result<()> {
     let mut names = env::args(rt)?.skip(1).peekable();
     if names.peek().is_none() {

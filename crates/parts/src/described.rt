@@ -104,13 +104,10 @@ fn describe_as<'a, S: Shown<'a>>(lines: Lines, bytes: &'a [u8]) -> Result<Lines,
 }
 
 // The parts of a word or a record behind a text, or its first fault.
-// Each answer is taken apart by `let .. else`: a rule of the project for readers.
 pub fn describe(lines: Lines, bytes: &[u8]) -> Result<Lines, NotShown>
     ensures { IsShown (described lines bytes.now) result }
 {
-    let Some(first) = bytes.first() else {
-        return Err(NotShown::Faulty(Fault::BadLength));
-    };
+    let first = bytes.first().ok_or(Fault::BadLength)?;
     match Kind::try_from(*first)? {
         Kind::Hello => describe_as::<Hello>(lines, bytes),
         Kind::Reply => describe_as::<Reply>(lines, bytes),

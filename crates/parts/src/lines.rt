@@ -15,7 +15,8 @@ pub fn hex(heap: Global, bytes: &[u8]) -> Result<String, AllocError>
     hex::encode(heap, bytes)
 }
 
-// A text that gets line after line, and where memory for it is had from.
+// A text that gets line after line, and where memory for it is had from. Indentations come with the lines: titles and parts
+// have other ones.
 #[derive(Drop)]
 pub struct Lines {
     heap: Global,

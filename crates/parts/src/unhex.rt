@@ -5,7 +5,8 @@ ghost use Rattle.parts.specs.Hex.{unhexed};
 
 use std::alloc::{AllocError, Global};
 
-// The bytes that pairs of digits stand for, or nothing where that isn't hex.
+// The bytes that pairs of digits stand for, or nothing where that isn't hex. That is None and no error, since nothing more
+// can be told of it; the error is want of memory.
 pub fn unhex(heap: Global, digits: &[u8]) -> Result<Option<Vec<u8>>, AllocError>
     ensures { IfOk result (λ o. option_map vec_items o ≡ unhexed [] digits.now) }
 {

@@ -21,7 +21,8 @@ impl LockKey {
         LockKey(derive(&secret.0, &[u8::from(Derivation::Lock)], &[]))
     }
 
-    // What stands behind the first bytes of a word, with room for a tag, is closed in its place.
+    // What stands behind the first bytes of a word, with room for a tag, is closed in its place. This and the next are the two
+    // ways of one key, in one line each.
     pub fn lock(&self, start: usize, word: &mut [u8]) -> Result<(), Refused>
         ensures { Behind start (λ before after. Closing self.now.0.key.bytes 0 [] before after (is_ok result)) word.old word.new }
     {

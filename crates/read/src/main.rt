@@ -23,6 +23,7 @@ fn main(rt: HostRuntime) -> io::Result<()> {
 }
 
 // Reads the files that are named by argument, `-` for standard input, or else standard input alone.
+// These lines stand in `line` too: a function that is lent two closures would be longer.
 fn run(rt: &HostRuntime) -> io::Result<()> {
     eprintln!(rt; "{STAND_IN_WARNING}")?;
     let mut names = env::args(rt)?.skip(1).peekable();

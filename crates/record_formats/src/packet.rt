@@ -37,7 +37,7 @@ fn is_followed(length: u16, behind: usize) -> bool
 }
 
 // A whole record, or its first fault.
-// Each answer is taken apart by `let .. else`: a rule of the project for readers.
+// Parts are taken by `let .. else`, a rule of the project for readers.
 pub fn read_record(bytes: &[u8]) -> Result<Packet<'_>, Fault>
     ensures { with as_record result ≡ read_record bytes.now }
 {

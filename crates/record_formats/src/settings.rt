@@ -6,7 +6,6 @@ ghost use Rattle.formats.specs.Reading.{with, alone, listing};
 ghost use Rattle.record_formats.specs.Settings.{most_sides, sides_in, keys_fit, settings_keys, own_number, read_settings, half_at, Fits};
 ghost use Rattle.record_formats.specs.Views.{as_settings, two_parts, numbered, half_of};
 
-use fixed_bytes::compare::same_bytes;
 use fixed_bytes::fixed::{Fixed, PublicKey};
 use formats::kind::behind_kind;
 use formats::listing::read_ciphers;
@@ -65,7 +64,7 @@ fn is_there(number: u16, sides: usize) -> bool
 }
 
 // The own number, and what follows it.
-// Each answer is taken apart by `let .. else`: a rule of the project for readers.
+// Parts are taken by `let .. else`, a rule of the project for readers.
 fn read_own(bytes: &[u8]) -> Result<(u16, &[u8]), Fault>
     ensures { with numbered result ≡ own_number bytes.now }
 {
@@ -81,7 +80,7 @@ fn read_own(bytes: &[u8]) -> Result<(u16, &[u8]), Fault>
 }
 
 // The halves of all sides and the key of the one with a number.
-// Each answer is taken apart by `let .. else`: a rule of the project for readers.
+// Parts are taken by `let .. else`, a rule of the project for readers.
 fn read_keys(own: u16, bytes: &[u8]) -> Result<(&[u8], &[u8; 32]), Fault>
     ensures { with two_parts result ≡ settings_keys own bytes.now }
 {
@@ -102,7 +101,7 @@ fn read_keys(own: u16, bytes: &[u8]) -> Result<(&[u8], &[u8; 32]), Fault>
 }
 
 // Whole settings, or their first fault. Whether the key is that of its side, `fits` says.
-// Each answer is taken apart by `let .. else`: a rule of the project for readers.
+// Parts are taken by `let .. else`, a rule of the project for readers.
 pub fn read_settings(bytes: &[u8]) -> Result<Settings<'_>, Fault>
     ensures { with as_settings result ≡ read_settings bytes.now }
 {
@@ -150,7 +149,7 @@ impl Settings<'_> {
         ensures { Fits (as_settings self.now) half.now.0.bytes result }
     {
         let own = self.public_half(self.own).ok_or(Fault::SettingsOtherKey)?;
-        if !same_bytes(own.0.bytes(), half.0.bytes()) {
+        if own != *half {
             return Err(Fault::SettingsOtherKey);
         }
         Ok(())

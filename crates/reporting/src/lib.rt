@@ -8,7 +8,7 @@ use std::alloc::{AllocError, Global};
 use std::io;
 
 // As many of the bytes in hex as another text in hex has.
-pub fn shown_like(heap: Global, value: &[u8], expected: &str) -> Result<String, AllocError>
+fn shown_like(heap: Global, value: &[u8], expected: &str) -> Result<String, AllocError>
     ensures { IfOk result (λ text. string_bytes text ≡ encode_lower (take (min (length expected.now / 2) (length value.now)) value.now)) }
 {
     let size = (expected.len() / 2).min(value.len());

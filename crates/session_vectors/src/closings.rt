@@ -1,8 +1,9 @@
 // Records of a worked session under cipher 1, closed with their number in the tag, as another program computed them.
+use crate::failure::NotComputed;
 use aead::closing::close;
 use aead::key::ClosingKey;
 use fixed_bytes::secret::Secret;
-use std::alloc::{AllocError, Global};
+use std::alloc::Global;
 
 // A key, the record's number and its content, and what is sent behind the record's head.
 pub struct ClosingVector {
@@ -48,14 +49,12 @@ pub const CLOSINGS: [ClosingVector; 3] = [
 ];
 
 impl ClosingVector {
-    // The content closed, with its number before it in the tag; None where it is refused, which `?` can't hand on.
-    pub fn closed(&self, heap: Global) -> Result<Option<Vec<u8>>, AllocError> {
+    // The content closed, with its number before it in the tag.
+    pub fn closed(&self, heap: Global) -> Result<Vec<u8>, NotComputed> {
         let mut bytes = self.content.to_vec(heap)?;
         bytes.extend_from_slice(&[0; 16])?;
         let key = ClosingKey::new(Secret::from(self.key));
-        let Ok(()) = close(&key, self.number, &self.number.to_be_bytes(), &mut bytes) else {
-            return Ok(None);
-        };
-        Ok(Some(bytes))
+        close(&key, self.number, &self.number.to_be_bytes(), &mut bytes)?;
+        Ok(bytes)
     }
 }

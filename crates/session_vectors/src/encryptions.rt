@@ -1,10 +1,10 @@
 // The vectors of RFC 8439 for ChaCha20: the block function (2.3.2), encryption (2.4.2), and appendices A.1 and A.2.
 // A block of the keystream is what zeros are encrypted to.
-ghost use Rattle.std.specs.Prelude.{true, false, IfOk, MatchOption};
-ghost use Rattle.ciphers.specs.ChaCha20.{Turning};
+ghost use Rattle.session_vectors.specs.Encrypted.{Encrypts};
 
+use crate::failure::NotComputed;
 use ciphers::chacha20::turn;
-use std::alloc::{AllocError, Global};
+use std::alloc::Global;
 
 // A key, the counter of the first block, a nonce and a text, and what the text is encrypted to.
 pub struct EncryptionVector {
@@ -119,14 +119,12 @@ pub const ENCRYPTIONS: [EncryptionVector; 10] = [
 ];
 
 impl EncryptionVector {
-    // What the text is encrypted to; nothing where the counter would pass its end.
-    pub fn encrypted(&self, heap: Global) -> Result<Option<Vec<u8>>, AllocError>
-        ensures { IfOk result (λ o. MatchOption o (Turning self.now.key self.now.counter self.now.nonce self.now.text.now self.now.text.now false) (λ v. Turning self.now.key self.now.counter self.now.nonce self.now.text.now v.items true)) }
+    // What the text is encrypted to; refused where the counter would pass its end.
+    pub fn encrypted(&self, heap: Global) -> Result<Vec<u8>, NotComputed>
+        ensures { Encrypts self.now.key self.now.counter self.now.nonce self.now.text.now result }
     {
         let mut bytes = self.text.to_vec(heap)?;
-        match turn(&self.key, self.counter, &self.nonce, &mut bytes) {
-            Ok(()) => Ok(Some(bytes)),
-            Err(_) => Ok(None),
-        }
+        turn(&self.key, self.counter, &self.nonce, &mut bytes)?;
+        Ok(bytes)
     }
 }

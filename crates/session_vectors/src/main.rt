@@ -3,14 +3,15 @@
 
 mod closings;
 mod encryptions;
+mod failure;
 mod session;
 mod told;
 
 use closings::CLOSINGS;
 use encryptions::ENCRYPTIONS;
-use reporting::report;
 use session::SESSIONS;
 use std::io;
+use told::tell;
 
 fn main(rt: HostRuntime) -> io::Result<()> {
     run(&rt)
@@ -18,19 +19,15 @@ fn main(rt: HostRuntime) -> io::Result<()> {
 
 fn run(rt: &HostRuntime) -> io::Result<()> {
     for vector in &ENCRYPTIONS {
-        match vector.encrypted(rt.alloc())? {
-            Some(bytes) => report(rt, vector.name, &bytes, vector.expected)?,
-            None => println!(rt; "{}: no keystream DIFFERS", vector.name)?,
-        }
+        let encrypted = vector.encrypted(rt.alloc());
+        tell(rt, vector.name, encrypted, vector.expected, "no keystream")?;
     }
     for vector in &SESSIONS {
         vector.report(rt)?;
     }
     for vector in &CLOSINGS {
-        match vector.closed(rt.alloc())? {
-            Some(bytes) => report(rt, vector.name, &bytes, vector.expected)?,
-            None => println!(rt; "{}: not closed DIFFERS", vector.name)?,
-        }
+        let closed = vector.closed(rt.alloc());
+        tell(rt, vector.name, closed, vector.expected, "not closed")?;
     }
     Ok(())
 }

@@ -7,6 +7,7 @@ ghost use Rattle.sha256.specs.Sha256.{sha256};
 ghost use Rattle.stand_in.specs.StandIn.{stand_in_group, stand_in_signatures};
 ghost use Rattle.session_vectors.specs.Session.{signed_part};
 
+use crate::failure::NotComputed;
 use fixed_bytes::fixed::{Fixed, PublicKey, Signature};
 use fixed_bytes::secret::{Secret, SecretKey, SessionSecret};
 use hashes::hasher::digest;
@@ -16,8 +17,9 @@ use primitives::seals::{open_seal, seal};
 use primitives::signatures::Signatures;
 use primitives::ways::{Direction, WayKey};
 use stand_in::StandIn;
-use std::alloc::{AllocError, Global};
+use std::alloc::Global;
 use words::cipher::Cipher;
+use words::registry::Kind;
 
 // What the two sides draw and hold, the words that they sent, and what is computed on the way.
 pub struct SessionVector {
@@ -188,26 +190,22 @@ impl SessionVector {
         <StandIn as Signatures>::verify(&half, self.signed_part(), &self.signature())
     }
 
-    // The end: the reply and the caller's signature, closed behind the kind and the length. What is refused is None in an answer
-    // that may want memory, which `?` can't hand on, hence `let .. else`.
-    pub fn end(&self, heap: Global) -> Result<Option<Vec<u8>>, AllocError> {
-        let Ok(length) = u16::try_from(self.reply.len().saturating_add(80)) else {
-            return Ok(None);
-        };
-        let [high, low] = length.to_be_bytes();
-        let mut word = vec![in heap; 3, high, low]?;
+    // The end: the reply and the caller's signature, closed behind the kind and the length.
+    pub fn end(&self, heap: Global) -> Result<Vec<u8>, NotComputed> {
+        let length = self.reply.len().saturating_add(80);
+        let [high, low] = u16::try_from(length)
+            .map_err(|_| NotComputed::Refused)?
+            .to_be_bytes();
+        let mut word = Vec::new(heap);
+        word.extend_from_slice(&[u8::from(Kind::End), high, low])?;
         word.extend_from_slice(self.reply)?;
-        let signature = <StandIn as Signatures>::sign(
-            &SecretKey(Secret::from(self.caller_key)),
-            &word,
-        );
+        let caller = SecretKey(Secret::from(self.caller_key));
+        let signature = <StandIn as Signatures>::sign(&caller, &word);
         word.extend_from_slice(signature.0.bytes())?;
         word.extend_from_slice(&[0; 16])?;
         let lock = LockKey::of(&SessionSecret(Secret::from(self.secret)));
-        let Ok(()) = lock.lock(3, &mut word) else {
-            return Ok(None);
-        };
-        Ok(Some(word))
+        lock.lock(3, &mut word)?;
+        Ok(word)
     }
 
     // The key of a way.

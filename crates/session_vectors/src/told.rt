@@ -1,8 +1,24 @@
-// What is printed of a worked session: its parts, one to a line.
+// What is printed of a vector, and of a worked session: its parts, one to a line.
+use crate::failure::NotComputed;
 use crate::session::SessionVector;
 use primitives::ways::Direction;
 use reporting::report;
 use std::io;
+
+// What was computed beside what is expected, or what is missing where it was refused.
+pub fn tell(
+    rt: &HostRuntime,
+    name: &str,
+    computed: Result<Vec<u8>, NotComputed>,
+    expected: &str,
+    missing: &str,
+) -> io::Result<()> {
+    match computed {
+        Ok(bytes) => report(rt, name, &bytes, expected),
+        Err(NotComputed::Refused) => println!(rt; "{name}: {missing} DIFFERS"),
+        Err(NotComputed::NoMemory(error)) => Err(error.into()),
+    }
+}
 
 impl SessionVector {
     // All parts.
@@ -22,10 +38,14 @@ impl SessionVector {
 
     // The end and the keys of both ways.
     fn report_keys(&self, rt: &HostRuntime) -> io::Result<()> {
-        match self.end(rt.alloc())? {
-            Some(word) => self.report_part(rt, "end", &word, self.end)?,
-            None => println!(rt; "{}, end: not locked DIFFERS", self.name)?,
-        }
+        let end = format!(in rt.alloc(); "{}, end", self.name)?;
+        tell(
+            rt,
+            end.as_str(),
+            self.end(rt.alloc()),
+            self.end,
+            "not locked",
+        )?;
         let to_called = self.way_key(Direction::ToCalled);
         let called_bytes = to_called.key().bytes();
         self.report_part(rt, "key to the called side", called_bytes, self.to_called)?;

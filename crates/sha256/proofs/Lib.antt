@@ -1,3 +1,3 @@
 mod BitLaws
-mod Rounds
+pub mod Rounds
 pub mod WrittenOut

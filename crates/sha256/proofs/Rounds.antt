@@ -1,5 +1,5 @@
 -- How words, schedules and rounds split, and the order of a round's sum. Assumes nothing.
-use Rattle.std.proofs.Common.{◌≡◌, ◌⊎◌, inl, inr, ℕ, zero, suc, ◌+◌, ◌*◌, ◌<◌, ◌≤◌, List, [], ◌∷◌, ◌++◌, length, get_or, take, drop, sym, refl, ap, ◌∙◌, suc-add, zero-add, arith, length-append}
+use Rattle.std.proofs.Common.{◌≡◌, ◌⊎◌, inl, inr, ℕ, zero, suc, ◌+◌, ◌*◌, ◌<◌, ◌≤◌, List, [], ◌∷◌, ◌++◌, length, get_or, take, drop, sym, refl, ap, ◌∙◌, suc-add, zero-add, mul-zero, mul-suc, arith, length-append}
 use Rattle.std.proofs.lemmas.List.{drop-drop, take-append-le, take_all, get_or-take}
 use Rattle.std.specs.Simd.{first_chunks}
 use Rattle.sha256.specs.declared.state.State.{State}
@@ -102,17 +102,18 @@ unfolding words
 length_words zero bytes = refl
 length_words (suc n) bytes = ap suc (length_words n (drop 4 bytes))
 
-chunk_at : (k i : ℕ) (xs : List ℕ) → i < k → get_or (first_chunks 4 k xs) i [] ≡ take 4 (drop (4 * i) xs)
-chunk_at zero i xs h = absurd (omega (arith, h))
-chunk_at (suc k) zero xs h = refl
-chunk_at (suc k) (suc i) xs h =
-    let on : 4 + 4 * i ≡ 4 * suc i = omega arith in
-    chunk_at k i (drop 4 xs) (omega (arith, h)) ∙ ap (take 4) (drop-drop (4 * i) 4 xs ∙ ap (λ m. drop m xs) on)
+-- a piece of n
+pub chunk_at : (n k i : ℕ) (xs : List ℕ) → i < k → get_or (first_chunks n k xs) i [] ≡ take n (drop (n * i) xs)
+chunk_at n zero i xs h = absurd (omega (arith, h))
+chunk_at n (suc k) zero xs h = ap (λ m. take n (drop m xs)) (sym (mul-zero n))
+chunk_at n (suc k) (suc i) xs h =
+    let on : n + n * i ≡ n * suc i = omega (arith, mul-suc n i) in
+    chunk_at n k i (drop n xs) (omega (arith, h)) ∙ ap (take n) (drop-drop (n * i) n xs ∙ ap (λ m. drop m xs) on)
 
 -- the word of four bytes that are a chunk
 pub chunk_word : (bytes : List ℕ) (chunks : List (List ℕ)) (k i x : ℕ) → i < k → chunks ≡ first_chunks 4 k bytes → x ≡ get_or (get_or chunks i []) 0 0 * 16777216 + get_or (get_or chunks i []) 1 0 * 65536 + get_or (get_or chunks i []) 2 0 * 256 + get_or (get_or chunks i []) 3 0 → x ≡ first_word (drop (4 * i) bytes)
 chunk_word bytes chunks k i x h e sum =
-    let at = ap (λ cs. get_or cs i []) e ∙ chunk_at k i bytes h in
+    let at = ap (λ cs. get_or cs i []) e ∙ chunk_at 4 k i bytes h in
     let rest = drop (4 * i) bytes in
     sum ∙ ap (λ c. get_or c 0 0 * 16777216 + get_or c 1 0 * 65536 + get_or c 2 0 * 256 + get_or c 3 0) at
     ∙ rw (get_or-take 4 rest 0 0 (omega arith), get_or-take 4 rest 1 0 (omega arith), get_or-take 4 rest 2 0 (omega arith), get_or-take 4 rest 3 0 (omega arith)) refl

@@ -5,7 +5,6 @@ ghost use Rattle.stand_in.specs.Products.{signed_verifies};
 ghost use Rattle.stand_in.specs.Products;
 
 use crate::StandIn;
-use fixed_bytes::compare::same_bytes;
 use fixed_bytes::fixed::{Fixed, PublicKey, Signature};
 use fixed_bytes::secret::SecretKey;
 use hashes::hmac::hmac;
@@ -37,6 +36,6 @@ impl Signatures for StandIn {
     }
 
     fn verify(signer: &PublicKey, message: &[u8], signature: &Signature) -> bool {
-        same_bytes(signature_of(signer, message).0.bytes(), signature.0.bytes())
+        signature_of(signer, message) == *signature
     }
 }

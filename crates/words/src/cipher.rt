@@ -9,7 +9,7 @@ pub struct Cipher {
 }
 
 impl Cipher {
-    // Made and read as constants, which From has no form for.
+    // Public const functions, which From can't be.
     pub const fn new(number: u8) -> Cipher
         ensures { result.number ≡ number }
     {

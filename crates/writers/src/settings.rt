@@ -18,7 +18,8 @@ fn are_sides(own: u16, length: usize) -> bool
     length % 32 == 0 && length / 32 <= MOST_SIDES && usize::from(own) < length / 32
 }
 
-// The settings of a side: its number, its preferences, the public halves of all sides one after another, and its identity key.
+// The settings of a side: its number, its preferences, the public halves of all sides one after another, as they are written
+// without a copy, and its identity key.
 pub fn write_settings(
     heap: Global,
     own: u16,

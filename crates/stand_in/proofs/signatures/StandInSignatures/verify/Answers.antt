@@ -1,7 +1,12 @@
-use mathlib.Core.Path.{ap₂, ◌∙◌}
+use Rattle.std.proofs.Common.{ap, ◌∙◌}
+use Rattle.std.specs.Str.{bytes_eq}
+use Rattle.std.proofs.lemmas.Slice.Eq.{bytes_eq-Decides}
 use Rattle.fixed_bytes.specs.Same.{same}
 use Rattle.fixed_bytes.proofs.Sameness.{decided}
 use Rattle.stand_in.proofs.signatures.StandInSignatures.verify.Goals as goal
 
 pub returns : goal.returns
-returns c = decided c.same_bytes.result c.bytes.result.now c.bytes-2.result.now c.same_bytes.ensures ∙ ap₂ same (c.bytes.ensures ∙ c.signature_of.ensures) c.bytes-2.ensures
+returns c =
+    let made = c.signature_of.result.0.bytes in
+    let given = c.args.signature.now.0.bytes in
+    c.eq.ensures ∙ decided (bytes_eq made given) made given (bytes_eq-Decides made given) ∙ ap (λ s. same s given) c.signature_of.ensures
