@@ -9,7 +9,7 @@ use aead::closing::{close, open};
 use aead::key::ClosingKey;
 use fixed_bytes::secret::Secret;
 
-// 32 bytes, which hold zeros once a key is made of them.
+// 32 bytes, which hold zeros once a key is made of them. C hands bytes in and takes them as a struct.
 #[repr(C)]
 #[derive(Drop)]
 pub struct KeyBytes {

@@ -1,3 +1,4 @@
 pub mod ChaCha20
 pub mod Parts
 pub mod Examples
+pub mod Lanes

@@ -1,6 +1,7 @@
 // ChaCha20 as in RFC 8439: rounds of additions and turns on 32-bit words, with sums that wrap on purpose; four blocks at once where there are four.
 ghost use Rattle.std.specs.Prelude.{◌≡◌, ℕ, ◌+◌, ◌*◌, ◌/◌, ◌%◌, ◌^◌, ◌<◌, ◌≤◌, min, true, ◌&&◌, map, length, is_ok, nat_le, slice_index};
 ghost use Rattle.ciphers.specs.ChaCha20.{quarter_at, double_round, double_rounds, word_at, initial, sum_byte, block_byte, stream_byte, Turning, TurnedTwiceUnchanged, TurnedApart};
+ghost use Rattle.ciphers.specs.Lanes.{EachLane};
 ghost use Rattle.ciphers.specs.Parts.{PartTurned};
 
 use crate::word::Word;
@@ -13,7 +14,7 @@ const LAST_OF_FOUR: u32 = 0xffff_fffc;
 fn quarter_at<T: Word>(s: &mut [T; 16], i: usize, j: usize, k: usize, l: usize)
     requires { (i < 16) × ((j < 16) × ((k < 16) × (l < 16))) }
     ensures sized { length s.old ≡ 16 }
-    ensures each { (n : ℕ) → n < T.Word.lanes → map (T.Word.lane n) s.new ≡ quarter_at i j k l (map (T.Word.lane n) s.old) }
+    ensures each { EachLane T.Word.lanes (λ n. map (T.Word.lane n) s.new ≡ quarter_at i j k l (map (T.Word.lane n) s.old)) }
 {
     let (a, d) = T::mix(16, s[i], s[j], s[l]);
     let (c, b) = T::mix(12, s[k], d, s[j]);
@@ -28,7 +29,7 @@ fn quarter_at<T: Word>(s: &mut [T; 16], i: usize, j: usize, k: usize, l: usize)
 // Four rounds on columns, and four on diagonals. The diagonals have no word in common, so they may come in any order:
 // from the last to the first, a machine with 16 registers moves the fewest words to and fro.
 fn double_round<T: Word>(s: &mut [T; 16])
-    ensures { (n : ℕ) → n < T.Word.lanes → map (T.Word.lane n) s.new ≡ double_round (map (T.Word.lane n) s.old) }
+    ensures { EachLane T.Word.lanes (λ n. map (T.Word.lane n) s.new ≡ double_round (map (T.Word.lane n) s.old)) }
 {
     quarter_at(s, 0, 4, 8, 12);
     quarter_at(s, 1, 5, 9, 13);
@@ -42,7 +43,7 @@ fn double_round<T: Word>(s: &mut [T; 16])
 
 // Twenty rounds.
 fn rounds<T: Word>(start: &[T; 16]) -> [T; 16]
-    ensures { (n : ℕ) → n < T.Word.lanes → map (T.Word.lane n) result ≡ double_rounds 10 (map (T.Word.lane n) start.now) }
+    ensures { EachLane T.Word.lanes (λ n. map (T.Word.lane n) result ≡ double_rounds 10 (map (T.Word.lane n) start.now)) }
 {
     let mut s = *start;
     for i in 0..10u32 {
@@ -67,7 +68,7 @@ fn word_at(bytes: &[u8], i: usize) -> u32
 // The states that blocks begin with.
 fn initial<T: Word>(key: &[u8; 32], counter: u32, nonce: &[u8; 12]) -> [T; 16]
     requires { counter + T.Word.lanes ≤ 2 ^ 32 }
-    ensures { (n : ℕ) → n < T.Word.lanes → map (T.Word.lane n) result ≡ initial key.now (counter + n) nonce.now }
+    ensures { EachLane T.Word.lanes (λ n. map (T.Word.lane n) result ≡ initial key.now (counter + n) nonce.now) }
 {
     [
         T::same(0x61707865),

@@ -1,6 +1,7 @@
 // A word of ChaCha20's state, of one block or of four blocks side by side: each lane is a block's word.
 ghost use Rattle.std.specs.Prelude.{◌≡◌, ℕ, ◌+◌, ◌^◌, ◌<◌, ◌≤◌, slice_index};
 ghost use Rattle.ciphers.specs.ChaCha20.{mixed};
+ghost use Rattle.ciphers.specs.Lanes.{EachLane};
 
 use std::simd::prelude::*;
 
@@ -15,12 +16,12 @@ pub(crate) trait Word: Copy {
 
     // The same word for every block.
     fn same(word: u32) -> Self
-        ensures { (n : ℕ) → n < lanes → lane n result ≡ word };
+        ensures { EachLane lanes (λ n. lane n result ≡ word) };
 
     // A number for the first block, and for each other the next.
     fn counted(first: u32) -> Self
         requires { first + lanes ≤ 2 ^ 32 }
-        ensures { (n : ℕ) → n < lanes → lane n result ≡ first + n };
+        ensures { EachLane lanes (λ n. lane n result ≡ first + n) };
 
     // The word of a block.
     fn of_block(self, n: usize) -> u32
@@ -30,7 +31,7 @@ pub(crate) trait Word: Copy {
     // One line of a quarter round: a += b; d ^= a; d <<<= k.
     fn mix(k: u32, a: Self, b: Self, d: Self) -> (Self, Self)
         requires { (0 < k) × (k < 32) }
-        ensures { (n : ℕ) → n < lanes → (lane n result.0, lane n result.1) ≡ mixed k (lane n a) (lane n b) (lane n d) };
+        ensures { EachLane lanes (λ n. (lane n result.0, lane n result.1) ≡ mixed k (lane n a) (lane n b) (lane n d)) };
 }
 
 impl Word for u32 {

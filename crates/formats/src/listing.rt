@@ -41,6 +41,7 @@ fn read_so_many(count: u8, bytes: &[u8], twice: Fault) -> Result<Preferences, Fa
         if !is_new(&list, *number) {
             return Err(twice);
         }
+        // It is new and there is room, so it is added.
         let _ = list.add(Cipher::new(*number));
         rest = after;
     }

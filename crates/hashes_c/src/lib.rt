@@ -9,7 +9,7 @@ ghost use Rattle.hashes.specs.Streams.{Keyed};
 use hashes::hasher::digest;
 use hashes::hmac::HmacKey;
 
-// The 32 bytes that a call gives.
+// The 32 bytes that a call gives. C hands bytes in and takes them as a struct.
 #[repr(C)]
 #[derive(Drop)]
 pub struct Output {

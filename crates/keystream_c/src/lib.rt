@@ -5,6 +5,7 @@ ghost use Rattle.ciphers.specs.ChaCha20.{Turning};
 
 use ciphers::chacha20::turn;
 
+// C hands bytes in as a struct of their size.
 #[repr(C)]
 #[derive(Drop)]
 pub struct Key {

@@ -5,7 +5,7 @@ ghost use Rattle.parts.specs.declared.failure.NotShown.TheVariants.{Faulty, NoMe
 use std::alloc::AllocError;
 use words::fault::Fault;
 
-// Their first fault, or want of memory for the text.
+// Their first fault, or want of memory for the text. From is written by hand, since what a derive writes has no contract.
 #[derive(Clone, Copy, Debug)]
 pub enum NotShown {
     Faulty(Fault),

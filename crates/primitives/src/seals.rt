@@ -19,7 +19,8 @@ pub enum NotSealed {
     NoRoom,
 }
 
-// Sealing is refused where the bytes have no room.
+// Sealing is refused where the bytes have no room. This From and the next are written by hand, since what a derive writes has
+// no contract.
 impl From<Refused> for NotSealed {
     ghost from_gives = { λ _ reason. reason ≡ NoRoom };
 

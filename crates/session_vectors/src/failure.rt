@@ -5,7 +5,7 @@ ghost use Rattle.session_vectors.specs.declared.failure.NotComputed.TheVariants.
 use ciphers::chacha20::KeystreamUsedUp;
 use std::alloc::AllocError;
 
-// It is refused, or there is no memory for it.
+// It is refused, or there is no memory for it. From is written by hand, since what a derive writes has no contract.
 #[derive(Clone, Copy, Debug)]
 pub enum NotComputed {
     Refused,

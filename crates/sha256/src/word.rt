@@ -16,6 +16,7 @@ pub const fn most(x: u32, y: u32, z: u32) -> u32
     ((x ^ y) & (y ^ z)) ^ y
 }
 
+// The four sums by the names that the standard has for them: one function of three constants would have these at each call.
 pub const fn big_sigma0(x: u32) -> u32
     ensures { result ≡ big_sigma0 x }
 {

@@ -6,6 +6,7 @@ ghost use Rattle.stand_in.specs.StandIn.{number, element};
 pub(crate) fn number_of(bytes: &[u8; 32]) -> u64
     ensures { result ≡ number bytes.now }
 {
+    // 32 bytes have 8 last ones.
     let Some((_, last)) = bytes.split_last_chunk::<8>() else {
         return 0;
     };
