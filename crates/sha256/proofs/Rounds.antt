@@ -1,6 +1,6 @@
 -- How words, schedules and rounds split, and the order of a round's sum. Assumes nothing.
-use Rattle.std.proofs.Common.{◌≡◌, ◌⊎◌, inl, inr, ℕ, zero, suc, ◌+◌, ◌*◌, ◌<◌, ◌≤◌, List, [], ◌∷◌, ◌++◌, length, get_or, take, drop, sym, refl, ap, ◌∙◌, suc-add, zero-add, mul-zero, mul-suc, arith, length-append}
-use Rattle.std.proofs.lemmas.List.{drop-drop, take-append-le, take_all, get_or-take}
+use Rattle.std.proofs.Common.{◌≡◌, ◌⊎◌, inl, inr, ℕ, zero, suc, ◌+◌, ◌*◌, ◌<◌, ◌≤◌, List, [], ◌∷◌, ◌++◌, length, get_or, take, drop, sym, refl, ap, ◌∙◌, suc-add, zero-add, mul-zero, mul-suc, arith, length-append, length-drop}
+use Rattle.std.proofs.lemmas.List.{drop-drop, take-append-drop, take-append-le, take_all, get_or-take, length-take-le}
 use Rattle.std.specs.Simd.{first_chunks}
 use Rattle.sha256.specs.declared.state.State.{State}
 use Rattle.sha256.specs.Sha256.{slid, slid_by, schedule, sums, round, rounds, added, compressed, constants}
@@ -118,12 +118,36 @@ chunk_word bytes chunks k i x h e sum =
     sum ∙ ap (λ c. get_or c 0 0 * 16777216 + get_or c 1 0 * 65536 + get_or c 2 0 * 256 + get_or c 3 0) at
     ∙ rw (get_or-take 4 rest 0 0 (omega arith), get_or-take 4 rest 1 0 (omega arith), get_or-take 4 rest 2 0 (omega arith), get_or-take 4 rest 3 0 (omega arith)) refl
 
+-- the rounds by pieces of constants and pieces of words
+unfoldable pub rounds_by : State → List (List ℕ) → List (List ℕ) → State
+rounds_by s [] wss = s
+rounds_by s (ks ∷ kss) [] = s
+rounds_by s (ks ∷ kss) (ws ∷ wss) = rounds_by (rounds s (sums ks ws)) kss wss
+
+-- sixteen numbers are two pieces of eight
+eights : (xs : List ℕ) → length xs ≡ 16 → take 8 xs ++ take 8 (drop 8 xs) ≡ xs
+eights xs h = ap (λ rest. take 8 xs ++ rest) (take_all 8 (drop 8 xs) (omega (arith, length-drop 8 xs))) ∙ take-append-drop 8 xs
+
+-- sixteen rounds by pieces of eight
+rounds_by_eights : (s : State) (ks ws : List ℕ) → length ks ≡ 16 → length ws ≡ 16 → rounds_by s (first_chunks 8 2 ks) (first_chunks 8 2 ws) ≡ rounds s (sums ks ws)
+unfolding rounds_by
+rounds_by_eights s ks ws hk hw =
+    let same : length (take 8 ks) ≡ length (take 8 ws) = length-take-le 8 ks (omega arith) ∙ sym (length-take-le 8 ws (omega arith)) in
+    sym (rounds_append s (sums (take 8 ks) (take 8 ws)) (sums (take 8 (drop 8 ks)) (take 8 (drop 8 ws))))
+    ∙ ap (rounds s) (sym (sums_append (take 8 ks) (take 8 ws) (take 8 (drop 8 ks)) (take 8 (drop 8 ws)) same))
+    ∙ rw (eights ks hk, eights ws hw) refl
+
+-- the constants in pieces of eight: sixteen words need the first two
+pub first_eights : (s : State) (ws : List ℕ) → length ws ≡ 16 → rounds_by s (first_chunks 8 8 constants) (first_chunks 8 2 ws) ≡ rounds s (sums (take 16 constants) ws)
+unfolding rounds_by constants
+first_eights s ws h = rounds_by_eights s (take 16 constants) ws refl h
+
 -- without constants, or without words, there is no round
-pub none_left : (s : State) (ks ws : List ℕ) → (ks ≡ []) ⊎ (ws ≡ []) → rounds s (sums ks ws) ≡ s
-unfolding rounds sums
-none_left s ks ws (inl e) = ap (λ l. rounds s (sums l ws)) e
-none_left s [] ws (inr e) = refl
-none_left s (k ∷ ks) ws (inr e) = ap (λ l. rounds s (sums (k ∷ ks) l)) e
+pub none_left : (s : State) (kss wss : List (List ℕ)) → (kss ≡ []) ⊎ (wss ≡ []) → rounds_by s kss wss ≡ s
+unfolding rounds_by
+none_left s kss wss (inl e) = ap (λ l. rounds_by s l wss) e
+none_left s [] wss (inr e) = refl
+none_left s (ks ∷ kss) wss (inr e) = ap (λ l. rounds_by s (ks ∷ kss) l) e
 
 -- the compression of a block, in quarters of its rounds
 pub by_quarters : (s : State) (block k0 k1 k2 k3 : List ℕ)

@@ -54,6 +54,24 @@ sixteen : (s0 s1 s2 s3 s4 s5 s6 s7 s8 s9 s10 s11 s12 s13 s14 s15 s16 : State) (k
 unfolding rounds sums
 sixteen s0 s1 s2 s3 s4 s5 s6 s7 s8 s9 s10 s11 s12 s13 s14 s15 s16 k0 k1 k2 k3 k4 k5 k6 k7 k8 k9 k10 k11 k12 k13 k14 k15 n0 n1 n2 n3 n4 n5 n6 n7 n8 n9 n10 n11 n12 n13 n14 n15 e0 e1 e2 e3 e4 e5 e6 e7 e8 e9 e10 e11 e12 e13 e14 e15 = cc
 
+-- eight rounds by the places of two lists
+pub eight_rounds : (ks ws : List ℕ) → length ks ≡ 8 → length ws ≡ 8 → (s0 s1 s2 s3 s4 s5 s6 s7 s8 : State)
+    → s1 ≡ round s0 (plus (get_or ks 0 0) (get_or ws 0 0))
+    → s2 ≡ round s1 (plus (get_or ks 1 0) (get_or ws 1 0))
+    → s3 ≡ round s2 (plus (get_or ks 2 0) (get_or ws 2 0))
+    → s4 ≡ round s3 (plus (get_or ks 3 0) (get_or ws 3 0))
+    → s5 ≡ round s4 (plus (get_or ks 4 0) (get_or ws 4 0))
+    → s6 ≡ round s5 (plus (get_or ks 5 0) (get_or ws 5 0))
+    → s7 ≡ round s6 (plus (get_or ks 6 0) (get_or ws 6 0))
+    → s8 ≡ round s7 (plus (get_or ks 7 0) (get_or ws 7 0))
+    → s8 ≡ rounds s0 (sums ks ws)
+unfolding rounds sums
+eight_rounds ks ws hk hw s0 s1 s2 s3 s4 s5 s6 s7 s8 e0 e1 e2 e3 e4 e5 e6 e7 =
+    let spelled_ks : ks ≡ get_or ks 0 0 ∷ get_or ks 1 0 ∷ get_or ks 2 0 ∷ get_or ks 3 0 ∷ get_or ks 4 0 ∷ get_or ks 5 0 ∷ get_or ks 6 0 ∷ get_or ks 7 0 ∷ [] = fill_by_all (λ i. get_or ks i 0) ks 8 0 hk (λ i l. refl) in
+    let spelled_ws : ws ≡ get_or ws 0 0 ∷ get_or ws 1 0 ∷ get_or ws 2 0 ∷ get_or ws 3 0 ∷ get_or ws 4 0 ∷ get_or ws 5 0 ∷ get_or ws 6 0 ∷ get_or ws 7 0 ∷ [] = fill_by_all (λ i. get_or ws i 0) ws 8 0 hw (λ i l. refl) in
+    let made : s8 ≡ rounds s0 (sums (get_or ks 0 0 ∷ get_or ks 1 0 ∷ get_or ks 2 0 ∷ get_or ks 3 0 ∷ get_or ks 4 0 ∷ get_or ks 5 0 ∷ get_or ks 6 0 ∷ get_or ks 7 0 ∷ []) (get_or ws 0 0 ∷ get_or ws 1 0 ∷ get_or ws 2 0 ∷ get_or ws 3 0 ∷ get_or ws 4 0 ∷ get_or ws 5 0 ∷ get_or ws 6 0 ∷ get_or ws 7 0 ∷ [])) = cc in
+    made ∙ ap (λ xs. rounds s0 (sums xs (get_or ws 0 0 ∷ get_or ws 1 0 ∷ get_or ws 2 0 ∷ get_or ws 3 0 ∷ get_or ws 4 0 ∷ get_or ws 5 0 ∷ get_or ws 6 0 ∷ get_or ws 7 0 ∷ []))) (sym spelled_ks) ∙ ap (λ xs. rounds s0 (sums ks xs)) (sym spelled_ws)
+
 -- sixteen constants from a place on, one by one
 quarter : (from : ℕ) → from ≤ 48 → take 16 (drop from constants) ≡ get_or constants from 0 ∷ get_or constants (from + 1) 0 ∷ get_or constants (from + 2) 0 ∷ get_or constants (from + 3) 0 ∷ get_or constants (from + 4) 0 ∷ get_or constants (from + 5) 0 ∷ get_or constants (from + 6) 0 ∷ get_or constants (from + 7) 0 ∷ get_or constants (from + 8) 0 ∷ get_or constants (from + 9) 0 ∷ get_or constants (from + 10) 0 ∷ get_or constants (from + 11) 0 ∷ get_or constants (from + 12) 0 ∷ get_or constants (from + 13) 0 ∷ get_or constants (from + 14) 0 ∷ get_or constants (from + 15) 0 ∷ []
 unfolding constants

@@ -77,13 +77,33 @@ fn block_words(block: &[u8; 64]) -> [u32; 16]
     w
 }
 
-// The first quarter of the rounds, by the words of the block.
+// Eight rounds, by their constants and their words.
+fn eight_rounds(s: State, constants: &[u32; 8], w: &[u32; 8]) -> State
+    ensures { result ≡ rounds s (sums constants.now w.now) }
+{
+    let s = one_round(s, constants[0].wrapping_add(w[0]));
+    let s = one_round(s, constants[1].wrapping_add(w[1]));
+    let s = one_round(s, constants[2].wrapping_add(w[2]));
+    let s = one_round(s, constants[3].wrapping_add(w[3]));
+    let s = one_round(s, constants[4].wrapping_add(w[4]));
+    let s = one_round(s, constants[5].wrapping_add(w[5]));
+    let s = one_round(s, constants[6].wrapping_add(w[6]));
+    let s = one_round(s, constants[7].wrapping_add(w[7]));
+    s
+}
+
+// The first quarter of the rounds, by the words of the block: eight at a time, which takes less time than one at a time.
 fn first_rounds(s: State, w: &[u32; 16]) -> State
     ensures { result ≡ rounds s (sums (take 16 constants) w.now) }
 {
     let mut s = s;
-    for (constant, word) in CONSTANTS[0..16].iter().zip(w) {
-        s = one_round(s, constant.wrapping_add(*word));
+    for (constants, words) in CONSTANTS
+        .as_chunks::<8>()
+        .0
+        .iter()
+        .zip(w.as_chunks::<8>().0)
+    {
+        s = eight_rounds(s, constants, words);
     }
     s
 }
