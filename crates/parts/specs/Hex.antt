@@ -1,5 +1,5 @@
 -- Bytes that are written in hex. Assumes nothing.
-use Rattle.std.specs.Prelude.{ℕ, ◌+◌, ◌-◌, ◌*◌, cond, ◌&&◌, List, [], ◌∷◌, ◌++◌, Some, None, Option, nat_le}
+use Rattle.std.specs.Prelude.{ℕ, ◌+◌, ◌-◌, ◌*◌, cond, ◌&&◌, List, [], ◌∷◌, ◌++◌, Some, None, Option, nat_le, slice_index}
 
 -- the value of a digit: 0 to 9, a to f, A to F
 abbrev pub digit_value : ℕ → Option ℕ
@@ -17,3 +17,7 @@ unfoldable pub unhexed : List ℕ → List ℕ → Option (List ℕ)
 unhexed bs [] = Some bs
 unhexed bs (a ∷ []) = None
 unhexed bs (a ∷ b ∷ rest) = needs (digit_value a) (λ h. needs (digit_value b) (λ l. unhexed (bs ++ (h * 16 + l) ∷ []) rest))
+
+-- the byte of a pair of digits
+abbrev pub pair_byte : List ℕ → Option ℕ
+pair_byte pair = needs (digit_value (slice_index pair 0)) (λ h. needs (digit_value (slice_index pair 1)) (λ l. Some (h * 16 + l)))

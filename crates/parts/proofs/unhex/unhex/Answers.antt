@@ -1,15 +1,27 @@
-use Rattle.std.proofs.Common.{◌≡◌, ◌/◌, ◌++◌, Some, length, take, drop, sym, ap, ◌∙◌, arith}
-use Rattle.std.proofs.lemmas.List.{take-append-le, take_all}
-use Rattle.parts.proofs.Hexes.{all_decoded, none_decoded}
+use Rattle.std.proofs.Common.{◌≡◌, ◌/◌, ◌*◌, ◌+◌, ◌%◌, [], drop, length, sym, ap, ap₂, ◌∙◌, arith, vec_items}
+use Rattle.parts.proofs.Hexes.{each_pair, in_pairs, odd, pair_taken, pair_bad, pairs_done}
 use Rattle.parts.proofs.unhex.unhex.Goals as goal
 
-pub returns-in-Ok : goal.returns-in-Ok
-returns-in-Ok c =
-    let half : length c.args.digits.now / 2 ≡ length c.as_mut_slice.result.now = omega (arith, c.as_mut_slice.ensures.len, c.in_ok-bytes.ensures.len) in
-    let room : take c.in_ok-bytes.bytes.len (c.decode_to_slice.new.out ++ drop (length c.decode_to_slice.new.out) c.in_ok-bytes.bytes.items) ≡ c.decode_to_slice.new.out = take-append-le _ c.decode_to_slice.new.out _ (omega (arith, c.as_mut_slice.ensures.len)) ∙ take_all _ c.decode_to_slice.new.out (omega (arith, c.as_mut_slice.ensures.len)) in
-    ap Some room ∙ sym (all_decoded c.args.digits.now c.decode_to_slice.new.out (length c.as_mut_slice.result.now) c.decode_to_slice.result half c.decode_to_slice.ensures.value c.in-Ok.is)
+pub returns-then-not-is_empty : goal.returns-then-not-is_empty
+returns-then-not-is_empty c =
+    let left : length c.args.digits.now % 2 ≡ 1 = grind arith in
+    sym (odd [] c.args.digits.now left)
 
-pub returns-in-Err : goal.returns-in-Err
-returns-in-Err c =
-    let half : length c.args.digits.now / 2 ≡ length c.as_mut_slice.result.now = omega (arith, c.as_mut_slice.ensures.len, c.in_ok-bytes.ensures.len) in
-    sym (none_decoded c.args.digits.now c.decode_to_slice.new.out (length c.as_mut_slice.result.now) c.decode_to_slice.result half c.in-Err.field-0 c.decode_to_slice.ensures.value c.in-Err.is)
+pub loop-pair-init : goal.loop-pair-init
+loop-pair-init c =
+    let even : length c.args.digits.now ≡ 2 * (length c.args.digits.now / 2) = grind arith in
+    ap₂ each_pair c.new-bytes.ensures.items c.as_chunks.ensures.front ∙ sym (in_pairs (length c.args.digits.now / 2) [] c.args.digits.now even)
+
+pub returns-in_default : goal.returns-in_default
+returns-in_default c =
+    let pairs = c.as_chunks.result.0.now in
+    sym (pair_bad (vec_items c.loop-pair.bytes) pairs c.loop-pair.pair-index [] c.loop-pair-test.true (sym c.in_default.is ∙ c.byte_of.ensures)) ∙ c.loop-pair.invariant
+
+pub loop-pair-preserved : goal.loop-pair-preserved
+loop-pair-preserved c =
+    let pairs = c.as_chunks.result.0.now in
+    ap (λ bs. each_pair bs (drop (c.loop-pair.pair-index + 1) pairs)) c.in_ok-push.ensures.items
+    ∙ (sym (pair_taken (vec_items c.loop-pair.bytes) pairs c.loop-pair.pair-index c.in-Some.byte [] c.loop-pair-test.true (sym c.in-Some.is ∙ c.byte_of.ensures)) ∙ c.loop-pair.invariant)
+
+pub returns : goal.returns
+returns c = sym (pairs_done (vec_items c.loop-pair.bytes) c.as_chunks.result.0.now c.loop-pair.pair-index c.loop-pair-test.false) ∙ c.loop-pair.invariant
