@@ -1,4 +1,6 @@
 // Records of a worked session under cipher 1, closed with their number in the tag, as another program computed them.
+ghost use Rattle.session_vectors.specs.Closed.{Closes};
+
 use crate::failure::NotComputed;
 use aead::closing::close;
 use aead::key::ClosingKey;
@@ -50,7 +52,9 @@ pub const CLOSINGS: [ClosingVector; 3] = [
 
 impl ClosingVector {
     // The content closed, with its number before it in the tag.
-    pub fn closed(&self, heap: Global) -> Result<Vec<u8>, NotComputed> {
+    pub fn closed(&self, heap: Global) -> Result<Vec<u8>, NotComputed>
+        ensures { Closes self.now.key self.now.number self.now.content.now result }
+    {
         let mut bytes = self.content.to_vec(heap)?;
         bytes.extend_from_slice(&[0; 16])?;
         let key = ClosingKey::new(Secret::from(self.key));
