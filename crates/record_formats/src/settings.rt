@@ -1,5 +1,5 @@
 // The settings of a side as bytes.
-ghost use Rattle.std.specs.Prelude.{◌≡◌, nat_le, nat_lt};
+ghost use Rattle.std.specs.Prelude.{◌≡◌, nat_le, nat_lt, slice_get};
 ghost use Rattle.words.specs.declared.fault.Fault.TheVariants.{SettingsTooManyCiphers, SettingsCipherTwice};
 ghost use Rattle.words.specs.Listed.{listed};
 ghost use Rattle.formats.specs.Reading.{with, alone, listing};
@@ -123,6 +123,13 @@ pub fn read_settings(bytes: &[u8]) -> Result<Settings<'_>, Fault>
     })
 }
 
+// The half in a side's place, if there is one.
+fn half_in(halves: &[[u8; 32]], side: u16) -> Option<[u8; 32]>
+    ensures { result ≡ slice_get halves.now side }
+{
+    halves.get(usize::from(side)).copied()
+}
+
 impl Settings<'_> {
     // The preferences, best first.
     pub fn preferences(&self) -> Result<Preferences, Fault>
@@ -140,8 +147,8 @@ impl Settings<'_> {
         ensures { half_of result ≡ half_at self.now.halves.now side }
     {
         let (halves, _) = self.halves.as_chunks::<32>();
-        let half = halves.get(usize::from(side))?;
-        Some(PublicKey(Fixed::from(*half)))
+        let half = half_in(halves, side)?;
+        Some(PublicKey(Fixed::from(half)))
     }
 
     // Whether the public half of the key is the one that stands in the list at the own number.

@@ -1,6 +1,7 @@
 // Words and numbers at the front of a text.
 ghost use Rattle.std.specs.Prelude.{◌≡◌, List, ℕ, length};
 ghost use Rattle.std.specs.Iterator.{at_most};
+ghost use Rattle.std.specs.Option.{unwrap_or};
 ghost use Rattle.script.specs.Text.{blank, uncommented, word, behind, with_digit, decimal, Tests, IsCut, NextWord};
 
 use std::marker::Model;
@@ -12,13 +13,20 @@ fn is_blank(byte: u8) -> bool
     byte == b' ' || byte == b'\t' || byte == b'\r'
 }
 
+// Where a text is cut: at the byte that was found, or else at its end.
+fn cut_place(found: Option<usize>, end: usize) -> usize
+    ensures { result ≡ unwrap_or found end }
+{
+    found.unwrap_or(end)
+}
+
 // What stands before the first byte that stops, and the rest.
 fn cut<F: Fn(u8) -> bool>(text: &[u8], stops: F) -> (&[u8], &[u8])
     requires { F.IsAlwaysCallable stops }
     ensures { (stop : _) → Tests (F.post stops) stop → IsCut stop text.now result.0.now result.1.now }
 {
     let stopped = text.iter().position(|byte| stops(*byte));
-    text.split_at(stopped.unwrap_or(text.len()))
+    text.split_at(cut_place(stopped, text.len()))
 }
 
 // The first word, which is empty where there is none, and what follows it.

@@ -9,4 +9,4 @@ pub returns : goal.returns
 returns g c stop h =
     let text = c.args.text.now in
     let found = position_from_yields_List stop _ _ c.position-stopped.result c.position-stopped.ensures.ran (YieldsList-from_slice text (cc)) (λ x b q k. let each = h.each x.now b in search (rules, tests)) in
-    split stop _ _ _ _ (c.unwrap_or.ensures ∙ ap (λ o. unwrap_or o (length text)) found) c.split_at.ensures.front c.split_at.ensures.back
+    split stop _ _ _ _ (c.cut_place.ensures ∙ ap (λ o. unwrap_or o (length text)) found) c.split_at.ensures.front c.split_at.ensures.back
