@@ -1,4 +1,4 @@
--- Bytes in hex as the library's definitions give them. Assumes nothing.
+-- Bytes written in hex by the library's definitions, and hex read pair by pair. Assumes nothing.
 use Rattle.std.proofs.Common.{◌≡◌, ℕ, zero, suc, ◌+◌, ◌*◌, ◌/◌, ◌%◌, ◌<◌, ◌≤◌, false, List, [], ◌∷◌, ◌++◌, length, drop, slice_index, slice_index_or, Option, Some, None, sym, refl, ap, ap₂, ◌∙◌, arith}
 use Rattle.std.specs.Simd.{first_chunks}
 use Rattle.std.specs.Fmt.{digit_glyph}
@@ -26,15 +26,10 @@ unfoldable pub each_pair : List ℕ → List (List ℕ) → Option (List ℕ)
 each_pair bs [] = Some bs
 each_pair bs (p ∷ ps) = needs (pair_byte p) (λ b. each_pair (bs ++ b ∷ []) ps)
 
--- the next pair's byte is put behind the others
-pub pair_taken : (bs : List ℕ) (ps : List (List ℕ)) (i b : ℕ) (d : List ℕ) → i < length ps → Some b ≡ pair_byte (slice_index_or ps i d) → each_pair bs (drop i ps) ≡ each_pair (bs ++ b ∷ []) (drop (i + 1) ps)
+-- the next pair's byte is put behind the others, or none ends it
+pub pair_next : (bs : List ℕ) (ps : List (List ℕ)) (i : ℕ) (d : List ℕ) (o : Option ℕ) → i < length ps → o ≡ pair_byte (slice_index_or ps i d) → each_pair bs (drop i ps) ≡ needs o (λ b. each_pair (bs ++ b ∷ []) (drop (i + 1) ps))
 unfolding each_pair
-pair_taken bs ps i b d h e = ap (each_pair bs) (drop_more ps i d h) ∙ ap (λ o. needs o (λ x. each_pair (bs ++ x ∷ []) (drop (i + 1) ps))) (sym e)
-
--- a pair that has no byte ends it
-pub pair_bad : (bs : List ℕ) (ps : List (List ℕ)) (i : ℕ) (d : List ℕ) → i < length ps → None ≡ pair_byte (slice_index_or ps i d) → each_pair bs (drop i ps) ≡ None
-unfolding each_pair
-pair_bad bs ps i d h e = ap (each_pair bs) (drop_more ps i d h) ∙ ap (λ o. needs o (λ x. each_pair (bs ++ x ∷ []) (drop (i + 1) ps))) (sym e)
+pair_next bs ps i d o h e = ap (each_pair bs) (drop_more ps i d h) ∙ ap (λ x. needs x (λ b. each_pair (bs ++ b ∷ []) (drop (i + 1) ps))) (sym e)
 
 -- with no pair left, all bytes are there
 pub pairs_done : (bs : List ℕ) (ps : List (List ℕ)) (i : ℕ) → length ps ≤ i → each_pair bs (drop i ps) ≡ Some bs

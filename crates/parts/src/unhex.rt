@@ -25,8 +25,8 @@ fn byte_of(pair: &[u8; 2]) -> Option<u8>
 }
 
 // The bytes that pairs of digits stand for, or nothing where that isn't hex. That is None and no error, since nothing more
-// can be told of it; the error is want of memory. Each byte is pushed as its pair is read, so that text that is no hex takes
-// no more memory than what was read of it; the library's hex takes it for all digits first, or more time for each pair.
+// can be told of it; the error is want of memory. Each byte is pushed as its pair is read, so text that is no hex takes memory
+// only for what was read of it. The crate `hex` would take it for all digits first, and for a pair at a time takes more time.
 pub fn unhex(heap: Global, digits: &[u8]) -> Result<Option<Vec<u8>>, AllocError>
     ensures { IfOk result (λ o. option_map vec_items o ≡ unhexed [] digits.now) }
 {
